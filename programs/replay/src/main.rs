@@ -15,10 +15,10 @@ mod session;
 mod mutants;
 
 use net::{ExitStatus, Failure, Listener, Listeners, ShutdownSignals, StderrWriter, Workers};
-use options::Options;
+use options::ReplayOptions;
 use renewal::Renewal;
-use serve::{Settings, Shared};
-use session::Login;
+use serve::{ServeOptions, Shared};
+use session::ScramSecret;
 use std::path::Path;
 use std::process::ExitCode;
 use std::sync::Arc;
@@ -30,29 +30,29 @@ use tokio::sync::mpsc;
 const SHUTTING_DOWN: Duration = Duration::from_secs(1);
 
 /// What tells that all ends, and how.
-type Ends = mpsc::Receiver<Result<(), Failure>>;
+type ShutdownReceiver = mpsc::Receiver<Result<(), Failure>>;
 
 /// The password in a file: its first line.
-fn login(path: &Path) -> Result<Login, Failure> {
+fn login(path: &Path) -> Result<ScramSecret, Failure> {
     let unread = |why: &dyn std::fmt::Display| {
         Failure::new(ExitStatus::Local, format!("{} can't be read: {why}", path.display()))
     };
     let bytes = std::fs::read(path).map_err(|why| unread(&recorded::plain(&why)))?;
     let password = bytes.split(|it| matches!(it, b'\n' | b'\r')).next().unwrap_or_default();
-    Login::new(password).map_err(|why| unread(&why))
+    ScramSecret::new(password).map_err(|why| unread(&why))
 }
 
 /// What serves, once it has been said where it listens.
-struct Begun {
+struct ReplayServer {
     /// What all sessions have.
     shared: Shared,
     listeners: Vec<Listener>,
-    ends: Ends,
+    ends: ShutdownReceiver,
     signals: ShutdownSignals,
 }
 
 /// Listens, and reads the recording: clients that come meanwhile wait. A recording that is to be made is begun.
-async fn begin(options: &Options, stderr: &StderrWriter) -> Result<Begun, Failure> {
+async fn begin(options: &ReplayOptions, stderr: &StderrWriter) -> Result<ReplayServer, Failure> {
     let rules = Arc::new(options.rules()?);
     options.check_paths()?;
     let mut addresses = Vec::new();
@@ -62,12 +62,12 @@ async fn begin(options: &Options, stderr: &StderrWriter) -> Result<Begun, Failur
     let fails = move |failure| drop(fails.try_send(Err(failure)));
     let renewal = Renewal::begin(options, stderr, fails).await?;
     let path = renewal.as_ref().map_or(&*options.file, Renewal::replayed);
-    let tape = recorded::load(path, &rules, options.speed, &|words| stderr.say(words))?;
-    if tape.connections.is_empty() && renewal.is_none() {
+    let recording = recorded::load(path, &rules, options.speed, &|words| stderr.say(words))?;
+    if recording.connections.is_empty() && renewal.is_none() {
         let words = format!("{} has no session that can be replayed", options.file.display());
         return Err(Failure::new(ExitStatus::Damaged, words));
     }
-    let settings = Settings {
+    let settings = ServeOptions {
         keeps_times: options.speed,
         patience: options.patience(),
         again: options.again,
@@ -83,8 +83,8 @@ async fn begin(options: &Options, stderr: &StderrWriter) -> Result<Begun, Failur
         ShutdownSignals::take().map_err(|why| Failure::new(ExitStatus::Local, why.to_string()))?;
     addresses.into_iter().for_each(|it| stderr.say_plain(it));
     let Listeners { listeners, tls } = bound;
-    Ok(Begun {
-        shared: Shared::new(tape, rules, stderr.clone(), tls, settings),
+    Ok(ReplayServer {
+        shared: Shared::new(recording, rules, stderr.clone(), tls, settings),
         listeners,
         ends,
         signals,
@@ -93,11 +93,11 @@ async fn begin(options: &Options, stderr: &StderrWriter) -> Result<Begun, Failur
 
 /// Serves until it is over, or a signal comes. Answers the status, and what all sessions have.
 async fn run(
-    options: &Options,
+    options: &ReplayOptions,
     stderr: &StderrWriter,
     workers: &Arc<Workers>,
 ) -> Result<(ExitStatus, Arc<Shared>), Failure> {
-    let Begun { shared, listeners, ends, signals } = begin(options, stderr).await?;
+    let ReplayServer { shared, listeners, ends, signals } = begin(options, stderr).await?;
     let shared = Arc::new(shared);
     let status = tokio::select! {
         end = serve::serve(shared.clone(), listeners, workers, ends) => serve::ended(&shared, end),
@@ -110,7 +110,7 @@ async fn run(
 }
 
 /// Puts what was recorded into the recording, once no session goes on.
-fn renew(shared: &Shared, options: &Options, stderr: &StderrWriter) -> Result<(), Failure> {
+fn renew(shared: &Shared, options: &ReplayOptions, stderr: &StderrWriter) -> Result<(), Failure> {
     if let Some(renewal) = &shared.renewal {
         let renewed = shared.pool().renewed();
         let (new, gone) = renewal.end(&renewed)?;
@@ -121,7 +121,7 @@ fn renew(shared: &Shared, options: &Options, stderr: &StderrWriter) -> Result<()
 }
 
 /// The same with the threads that serve clients; another one accepts them.
-fn serve_all(options: &Options, stderr: &StderrWriter) -> Result<ExitStatus, Failure> {
+fn serve_all(options: &ReplayOptions, stderr: &StderrWriter) -> Result<ExitStatus, Failure> {
     let local = |why| Failure::new(ExitStatus::Local, format!("no thread can be begun: {why}"));
     let workers = Arc::new(options.listening.workers().map_err(local)?);
     let runtime = Builder::new_current_thread().enable_all().build().map_err(local)?;
@@ -137,7 +137,7 @@ fn serve_all(options: &Options, stderr: &StderrWriter) -> Result<ExitStatus, Fai
 }
 
 fn main() -> ExitCode {
-    let options = match Options::take() {
+    let options = match ReplayOptions::take() {
         Ok(options) => options,
         Err((ExitStatus::Ok, words)) => {
             print!("{words}");

@@ -1,7 +1,7 @@
 //! The options, and what is wrong with them.
 
 use crate::fingerprint::LiteralKind;
-use crate::rules::Rules;
+use crate::rules::ReplayRules;
 use clap::Parser;
 use net::{Address, ExitStatus, Failure, ListenOptions, ServerOptions};
 use std::path::PathBuf;
@@ -25,7 +25,7 @@ pub const USAGE: &str = "usage: pg_replay [OPTION..] FILE [LISTEN_PORT]";
 /// Messages up to a mebibyte are compared so; longer ones have to be as recorded.
 #[derive(Parser, Debug)]
 #[command(name = "pg_replay", version, override_usage = FORM, disable_help_flag = true)]
-pub struct Options {
+pub struct ReplayOptions {
     /// The recording
     pub file: PathBuf,
     /// A port of 127.0.0.1 to serve on, a free one for 0; with --folder, that of its socket's name
@@ -89,7 +89,7 @@ pub struct Options {
 
 /// What is recorded in a replay.
 #[derive(Clone, Copy, Debug, PartialEq, Eq)]
-pub enum Recorded {
+pub enum RecordMode {
     Nothing,
     Missing,
     All,
@@ -101,10 +101,10 @@ fn with_usage(why: &str) -> String {
     format!("pg_replay: {}\n{USAGE}\n", what.trim_start_matches("error: "))
 }
 
-impl Options {
+impl ReplayOptions {
     /// Takes the arguments. What is to be printed of them otherwise comes with a status.
-    pub fn take() -> Result<Options, (ExitStatus, String)> {
-        let options = Options::try_parse().map_err(|why| match why.use_stderr() {
+    pub fn take() -> Result<ReplayOptions, (ExitStatus, String)> {
+        let options = ReplayOptions::try_parse().map_err(|why| match why.use_stderr() {
             true => (ExitStatus::Usage, with_usage(&why.to_string())),
             false => (ExitStatus::Ok, why.to_string()),
         })?;
@@ -119,16 +119,16 @@ impl Options {
         if self.listen_port.is_none() && self.listening.listen.is_empty() {
             return Some("where to listen is missing: LISTEN_PORT, or --listen ADDRESS");
         }
-        let has_use = self.recorded() != Recorded::Nothing || !self.server.is_given();
+        let has_use = self.recorded() != RecordMode::Nothing || !self.server.is_given();
         (!has_use).then_some("a server has a use with --record-missing or --record-all alone")
     }
 
     /// What is recorded.
-    pub fn recorded(&self) -> Recorded {
+    pub fn recorded(&self) -> RecordMode {
         match (self.record_missing, self.record_all) {
-            (false, false) => Recorded::Nothing,
-            (true, _) => Recorded::Missing,
-            _ => Recorded::All,
+            (false, false) => RecordMode::Nothing,
+            (true, _) => RecordMode::Missing,
+            _ => RecordMode::All,
         }
     }
 
@@ -153,10 +153,10 @@ impl Options {
     }
 
     /// What may differ.
-    pub fn rules(&self) -> Result<Rules, Failure> {
+    pub fn rules(&self) -> Result<ReplayRules, Failure> {
         let mut rules = match &self.rules {
-            None => Rules::default(),
-            Some(path) => Rules::read(path).map_err(|why| {
+            None => ReplayRules::default(),
+            Some(path) => ReplayRules::read(path).map_err(|why| {
                 Failure::new(ExitStatus::Usage, format!("{}: {why:#}", path.display()))
             })?,
         };

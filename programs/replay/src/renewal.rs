@@ -1,6 +1,6 @@
 //! The recording of what a replay passes on to a server, and of the sessions that it takes the place of.
 
-use crate::options::{self, Options};
+use crate::options::{self, ReplayOptions};
 use anyhow::anyhow;
 use net::{ExitStatus, Failure, StderrWriter, Stream, Upstream};
 use pg_record::{Link, LinkError, RecordSink, RecordingOutput};
@@ -59,11 +59,11 @@ async fn in_time<T>(answer: impl Future<Output = anyhow::Result<T>>) -> anyhow::
 impl Renewal {
     /// Begins to record what the options ask for, if anything. Why it can't be any more is told by `fails`.
     pub async fn begin(
-        options: &Options,
+        options: &ReplayOptions,
         stderr: &StderrWriter,
         fails: impl Fn(Failure) + Send + Sync + 'static,
     ) -> Result<Option<Renewal>, Failure> {
-        if options.recorded() == options::Recorded::Nothing {
+        if options.recorded() == options::RecordMode::Nothing {
             return Ok(None);
         }
         let path = options.file.clone();
@@ -75,7 +75,7 @@ impl Renewal {
             recording::Recorder::begin(file.try_clone().map_err(failed)?).map_err(failed)?;
         let recorded = RecordingOutput::new(recorded, &path, false);
         let sink = RecordSink::new(Some(recorded), None, stderr.clone(), Box::new(fails));
-        let keeps_old = options.recorded() == options::Recorded::Missing;
+        let keeps_old = options.recorded() == options::RecordMode::Missing;
         Ok(Some(Renewal {
             sink,
             upstream,
@@ -157,7 +157,7 @@ impl Renewal {
         let begun = old.as_ref().map_or(run.begun(), Reader::begun);
         let later = run.begun().saturating_sub(begun);
         let writer = Writer::new(BufWriter::with_capacity(ROOM, file), begun).map_err(failed)?;
-        let mut joined = Joined { writer, numbers: HashMap::new(), opened: 0, time: 0 };
+        let mut joined = ConnectionCopier { writer, numbers: HashMap::new(), opened: 0, time: 0 };
         let mut gone = HashSet::new();
         if let Some(old) = old {
             gone = self.find(replaced).map_err(damaged)?;
@@ -190,7 +190,7 @@ impl Renewal {
 }
 
 /// A recording that is made of connections of others, one recording after the other.
-struct Joined<W: Write> {
+struct ConnectionCopier<W: Write> {
     writer: Writer<W>,
     /// The numbers of the connections of the recording at hand.
     numbers: HashMap<u32, u32>,
@@ -198,7 +198,7 @@ struct Joined<W: Write> {
     time: u64,
 }
 
-impl<W: Write> Joined<W> {
+impl<W: Write> ConnectionCopier<W> {
     /// Adds the connections that are wanted of a recording, which began so many microseconds later.
     fn add(
         &mut self,

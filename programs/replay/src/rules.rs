@@ -10,7 +10,7 @@ use std::path::Path;
 
 /// What may differ.
 #[derive(Clone, Default)]
-pub struct Rules {
+pub struct ReplayRules {
     replaced: Vec<(Regex, String)>,
     parameters: Vec<(Regex, Vec<usize>)>,
     ignored: Vec<(Regex, String)>,
@@ -28,27 +28,27 @@ fn each<R, T>(rules: Vec<R>, make: impl Fn(R) -> Result<T>) -> Result<Vec<T>> {
     rules.into_iter().map(make).collect()
 }
 
-impl Rules {
+impl ReplayRules {
     /// Reads a file of rules.
-    pub fn read(path: &Path) -> Result<Rules> {
+    pub fn read(path: &Path) -> Result<ReplayRules> {
         let text = std::fs::read_to_string(path)?;
-        Rules::parse(&text)
+        ReplayRules::parse(&text)
     }
 
-    fn parse(text: &str) -> Result<Rules> {
+    fn parse(text: &str) -> Result<ReplayRules> {
         let file = RulesFile::parse(text)?;
-        Ok(Rules {
+        Ok(ReplayRules {
             replaced: each(file.replace, |it| Ok((regex(&it.pattern)?, it.with)))?,
             parameters: each(file.parameter, |it| Ok((regex(&it.statement)?, it.positions)))?,
             ignored: each(file.ignore, |it| Ok((regex(&it.statement)?, it.command)))?,
             settings: file.settings.ignore.into_iter().map(String::into_bytes).collect(),
-            ..Rules::default()
+            ..ReplayRules::default()
         })
     }
 
     /// These rules, and those of another text.
-    pub fn and(&self, text: &str) -> Result<Rules> {
-        let (mut all, more) = (self.clone(), Rules::parse(text)?);
+    pub fn and(&self, text: &str) -> Result<ReplayRules> {
+        let (mut all, more) = (self.clone(), ReplayRules::parse(text)?);
         all.replaced.extend(more.replaced);
         all.parameters.extend(more.parameters);
         all.ignored.extend(more.ignored);

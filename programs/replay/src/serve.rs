@@ -1,11 +1,11 @@
 //! Serving a recording to the clients that connect.
 
 use crate::pool::Pool;
-use crate::recorded::{plain, Tape};
+use crate::recorded::{plain, Recording};
 use crate::renewal::Renewal;
-use crate::report::{doubt, Adviser, Allowed, Report, Side};
-use crate::rules::Rules;
-use crate::session::{greet, Login};
+use crate::report::{doubt, AllowedDifferences, DifferenceReport, ReportedMessage, RuleAdviser};
+use crate::rules::ReplayRules;
+use crate::session::{greet, ScramSecret};
 use anyhow::Result;
 use net::{most_sessions, ExitStatus, Failure, Listener, ServerTls, StderrWriter, Workers};
 use std::collections::VecDeque;
@@ -25,9 +25,9 @@ const PAUSE: Duration = Duration::from_millis(50);
 
 /// What all sessions have.
 pub struct Shared {
-    pub tape: Arc<Tape>,
-    pub rules: Arc<Rules>,
-    adviser: Adviser,
+    pub recording: Arc<Recording>,
+    pub rules: Arc<ReplayRules>,
+    adviser: RuleAdviser,
     pool: Mutex<Pool>,
     /// Something came that a session may wait for of others.
     pub stirred: Notify,
@@ -38,7 +38,7 @@ pub struct Shared {
     pub any_order: bool,
     pub goes_on: bool,
     pub tls: Option<ServerTls>,
-    pub login: Option<Login>,
+    pub login: Option<ScramSecret>,
     /// What is recorded beside.
     pub renewal: Option<Renewal>,
     is_different: AtomicBool,
@@ -46,22 +46,22 @@ pub struct Shared {
     pub is_strict: bool,
     is_ambiguous: AtomicBool,
     /// Clients whose Startup hasn't come, the oldest first.
-    openings: Mutex<VecDeque<Opening>>,
+    openings: Mutex<VecDeque<PendingClient>>,
     end: mpsc::Sender<Result<(), Failure>>,
 }
 
 /// When a client came that hasn't opened its session, and what tells it that it has to go.
-type Opening = (Instant, oneshot::Sender<()>);
+type PendingClient = (Instant, oneshot::Sender<()>);
 
 /// How a recording is served.
-pub struct Settings {
+pub struct ServeOptions {
     pub keeps_times: bool,
     pub patience: Option<Duration>,
     pub again: bool,
     pub any_order: bool,
     pub goes_on: bool,
     pub is_strict: bool,
-    pub login: Option<Login>,
+    pub login: Option<ScramSecret>,
     pub renewal: Option<Renewal>,
     /// What tells that all ends, and how.
     pub end: mpsc::Sender<Result<(), Failure>>,
@@ -69,18 +69,18 @@ pub struct Settings {
 
 impl Shared {
     pub fn new(
-        tape: Tape,
-        rules: Arc<Rules>,
+        recording: Recording,
+        rules: Arc<ReplayRules>,
         stderr: StderrWriter,
         tls: Option<ServerTls>,
-        settings: Settings,
+        settings: ServeOptions,
     ) -> Shared {
-        let (tape, gives_back) = (Arc::new(tape), settings.renewal.is_some());
-        let pool = Pool::new(tape.clone(), settings.again, settings.any_order, gives_back);
+        let (recording, gives_back) = (Arc::new(recording), settings.renewal.is_some());
+        let pool = Pool::new(recording.clone(), settings.again, settings.any_order, gives_back);
         Shared {
             pool: Mutex::new(pool),
-            adviser: Adviser::new(tape.clone(), rules.clone()),
-            tape,
+            adviser: RuleAdviser::new(recording.clone(), rules.clone()),
+            recording,
             rules,
             stirred: Notify::new(),
             keeps_times: settings.keeps_times,
@@ -105,31 +105,32 @@ impl Shared {
     }
 
     /// What may differ, with the text of the statement of a Bind.
-    pub fn allowed(&self, statement: Option<Vec<u8>>) -> Allowed<'_> {
-        Allowed { rules: &self.rules, adviser: &self.adviser, statement }
+    pub fn allowed(&self, statement: Option<Vec<u8>>) -> AllowedDifferences<'_> {
+        AllowedDifferences { rules: &self.rules, adviser: &self.adviser, statement }
     }
 
-    fn openings(&self) -> MutexGuard<'_, VecDeque<Opening>> {
+    fn openings(&self) -> MutexGuard<'_, VecDeque<PendingClient>> {
         self.openings.lock().unwrap_or_else(PoisonError::into_inner)
     }
 
-    pub fn tell_difference(&self, report: &Report) {
+    pub fn tell_difference(&self, report: &DifferenceReport) {
         self.is_different.store(true, Ordering::Relaxed);
         self.stderr.say_plain(report.words());
     }
 
     /// Tells that a client may mean another message than it is answered, which was answered otherwise: once for a request
     /// where that is let pass, and else by what ends the session.
-    pub fn tell_doubt(&self, said: usize, rival: usize) -> Option<Report> {
-        let report = self.is_strict.then(|| Report::of_doubt(&self.tape, said, rival));
+    pub fn tell_doubt(&self, request: usize, rival: usize) -> Option<DifferenceReport> {
+        let report =
+            self.is_strict.then(|| DifferenceReport::of_doubt(&self.recording, request, rival));
         match &report {
             Some(report) => {
                 self.is_ambiguous.store(true, Ordering::Relaxed);
                 self.stderr.say_plain(report.words());
             }
             None => {
-                self.pool().pass_over_rivals(said);
-                self.stderr.say(format!("note: {}", doubt(&self.tape, said, rival)));
+                self.pool().pass_over_rivals(request);
+                self.stderr.say(format!("note: {}", doubt(&self.recording, request, rival)));
             }
         }
         report
@@ -154,11 +155,11 @@ impl Shared {
     }
 
     /// Ends a session, and the program where nothing is left to do.
-    pub fn leave(&self, seat: usize, ended: Result<bool>) {
+    pub fn leave(&self, slot: usize, ended: Result<bool>) {
         let is_replayed = *ended.as_ref().unwrap_or(&false);
         let is_done = {
             let mut pool = self.pool();
-            pool.leave(seat, is_replayed);
+            pool.leave(slot, is_replayed);
             // More may come that isn't recorded.
             pool.is_done() && self.renewal.is_none()
         };
@@ -174,9 +175,9 @@ impl Shared {
 impl Shared {
     /// Ends a client that got no connection: it is counted for the one that it differs from.
     pub fn fail(&self, connection: Option<usize>) {
-        let seat = connection.filter(|it| self.pool().take_failed(*it));
-        if let Some(seat) = seat {
-            self.leave(seat, Ok(false));
+        let slot = connection.filter(|it| self.pool().take_failed(*it));
+        if let Some(slot) = slot {
+            self.leave(slot, Ok(false));
         } else if !self.goes_on {
             let _ = self.end.try_send(Ok(()));
         }
@@ -211,19 +212,23 @@ pub fn ended(shared: &Shared, ended: Result<(), Failure>) -> ExitStatus {
     let unsaid = {
         let pool = shared.pool();
         let unsaid = pool.first_unsaid().filter(|_| pool.is_done());
-        unsaid.map(|said| (shared.tape.connection_of(said), said))
+        unsaid.map(|request| (shared.recording.connection_of(request), request))
     };
     let mut is_different = shared.is_different.load(Ordering::Relaxed);
     let is_ambiguous = shared.is_ambiguous.load(Ordering::Relaxed);
     let is_told = is_different || is_ambiguous || ended.is_err();
-    if let (Some((connection, said)), false) = (unsaid, is_told) {
+    if let (Some((connection, request)), false) = (unsaid, is_told) {
         is_different = true;
-        let recorded =
-            shared.tape.message(said).map_or_else(|why| Side::Words(why.to_string()), Side::read);
-        let received = Side::Words("no client said it".to_owned());
-        let place = (Some(connection), shared.tape.script.number(said));
+        let recorded = shared
+            .recording
+            .message(request)
+            .map_or_else(|why| ReportedMessage::Words(why.to_string()), ReportedMessage::read);
+        let received = ReportedMessage::Words("no client said it".to_owned());
+        let place = (Some(connection), shared.recording.requests.number(request));
         let allowed = shared.allowed(None);
-        shared.stderr.say_plain(Report::new(place, &allowed, &recorded, &received, None).words());
+        shared
+            .stderr
+            .say_plain(DifferenceReport::new(place, &allowed, &recorded, &received, None).words());
     }
     let status = match ended {
         Err(failure) => {
@@ -235,7 +240,7 @@ pub fn ended(shared: &Shared, ended: Result<(), Failure>) -> ExitStatus {
         Ok(()) if is_different => ExitStatus::Different,
         Ok(()) => ExitStatus::Ok,
     };
-    let (replayed, all) = (shared.pool().replayed(), shared.tape.connections.len());
+    let (replayed, all) = (shared.pool().replayed(), shared.recording.connections.len());
     shared.stderr.say(format!("{replayed} of {all} sessions are replayed"));
     status
 }

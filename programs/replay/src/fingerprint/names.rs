@@ -6,7 +6,7 @@ use std::sync::Arc;
 
 /// What SQL does with a name.
 #[derive(Clone, Copy, Debug, PartialEq, Eq)]
-pub enum Sort {
+pub enum NameAction {
     Savepoint,
     Release,
     Back,
@@ -20,9 +20,9 @@ pub enum Sort {
 
 /// What a message does with names once it fits.
 #[derive(Clone, Debug)]
-pub enum Effect {
-    MakeStatement(Vec<u8>, Arc<About>),
-    MakePortal(Vec<u8>, Arc<About>),
+pub enum NameEffect {
+    MakeStatement(Vec<u8>, Arc<StatementRules>),
+    MakePortal(Vec<u8>, Arc<StatementRules>),
     MakeSavepoint(Vec<u8>),
     DropStatement(Vec<u8>),
     DropStatements,
@@ -35,28 +35,28 @@ pub enum Effect {
     Nothing,
 }
 
-impl Effect {
+impl NameEffect {
     /// What a statement of SQL does.
-    pub fn of(sort: Sort, name: Vec<u8>, holds: bool) -> Effect {
-        let about = || Arc::new(About { holds, ..About::default() });
-        match sort {
-            Sort::Savepoint => Effect::MakeSavepoint(name),
-            Sort::Release => Effect::Release(name),
-            Sort::Back => Effect::Back(name),
-            Sort::Declare => Effect::MakePortal(name, about()),
-            Sort::Prepare => Effect::MakeStatement(name, about()),
-            Sort::Deallocate if name == b"all" => Effect::DropStatements,
-            Sort::Deallocate => Effect::DropStatement(name),
-            Sort::Close if name == b"all" => Effect::DropPortals,
-            Sort::Close => Effect::DropPortal(name),
-            Sort::Execute | Sort::Fetch => Effect::Nothing,
+    pub fn of(action: NameAction, name: Vec<u8>, holds: bool) -> NameEffect {
+        let about = || Arc::new(StatementRules { holds, ..StatementRules::default() });
+        match action {
+            NameAction::Savepoint => NameEffect::MakeSavepoint(name),
+            NameAction::Release => NameEffect::Release(name),
+            NameAction::Back => NameEffect::Back(name),
+            NameAction::Declare => NameEffect::MakePortal(name, about()),
+            NameAction::Prepare => NameEffect::MakeStatement(name, about()),
+            NameAction::Deallocate if name == b"all" => NameEffect::DropStatements,
+            NameAction::Deallocate => NameEffect::DropStatement(name),
+            NameAction::Close if name == b"all" => NameEffect::DropPortals,
+            NameAction::Close => NameEffect::DropPortal(name),
+            NameAction::Execute | NameAction::Fetch => NameEffect::Nothing,
         }
     }
 }
 
 /// What the rules say of a statement, or of a portal of it.
 #[derive(Debug, Default, PartialEq, Eq)]
-pub struct About {
+pub struct StatementRules {
     /// The parameters whose values may differ, from 1 on.
     pub free: Vec<usize>,
     /// The tag of the command by which it is answered where it isn't recorded.
@@ -67,20 +67,20 @@ pub struct About {
 
 /// What a name stands for.
 #[derive(Clone, Debug, PartialEq, Eq)]
-struct Definition {
-    /// The form of the message that made it.
-    form: u32,
-    /// How many others that the same form made were there.
+struct NameDefinition {
+    /// The fingerprint of the message that made it.
+    fingerprint: u32,
+    /// How many others that the same fingerprint made were there.
     nth: u32,
-    about: Arc<About>,
+    about: Arc<StatementRules>,
 }
 
 /// What the names of a session stand for.
 #[derive(Clone, Debug, Default, PartialEq, Eq)]
-pub struct Names {
-    statements: HashMap<Vec<u8>, Definition>,
-    portals: HashMap<Vec<u8>, Definition>,
-    savepoints: Vec<(Vec<u8>, Definition)>,
+pub struct SessionNames {
+    statements: HashMap<Vec<u8>, NameDefinition>,
+    portals: HashMap<Vec<u8>, NameDefinition>,
+    savepoints: Vec<(Vec<u8>, NameDefinition)>,
 }
 
 /// How a name is put that stands for something, that nothing has, and that the same text has made.
@@ -90,17 +90,17 @@ const UNKNOWN_AND_GONE: u8 = 3;
 const MADE_HERE: u8 = 4;
 const ALL: u8 = 5;
 
-impl Definition {
+impl NameDefinition {
     fn put(&self, out: &mut Vec<u8>) {
         out.push(KNOWN);
-        out.extend_from_slice(&self.form.to_be_bytes());
+        out.extend_from_slice(&self.fingerprint.to_be_bytes());
         out.extend_from_slice(&self.nth.to_be_bytes());
     }
 }
 
 /// Adds a name by what it stands for. One that nothing made counts by its letters, unless it is dropped here: a client
 /// may drop what it invents before it makes it.
-fn put_name(out: &mut Vec<u8>, found: Option<&Definition>, name: &[u8], is_dropped: bool) {
+fn put_name(out: &mut Vec<u8>, found: Option<&NameDefinition>, name: &[u8], is_dropped: bool) {
     match found {
         Some(definition) => definition.put(out),
         None if is_dropped && !name.is_empty() => out.push(UNKNOWN_AND_GONE),
@@ -112,7 +112,7 @@ fn put_name(out: &mut Vec<u8>, found: Option<&Definition>, name: &[u8], is_dropp
     }
 }
 
-impl Names {
+impl SessionNames {
     pub fn put_statement(&self, out: &mut Vec<u8>, name: &[u8], is_dropped: bool) {
         put_name(out, self.statements.get(name), name, is_dropped);
     }
@@ -122,37 +122,49 @@ impl Names {
     }
 
     /// What the rules say of a statement.
-    pub fn about_statement(&self, name: &[u8]) -> Arc<About> {
+    pub fn rules_of_statement(&self, name: &[u8]) -> Arc<StatementRules> {
         self.statements.get(name).map(|it| it.about.clone()).unwrap_or_default()
     }
 
     /// What the rules say of a portal.
-    pub fn about_portal(&self, name: &[u8]) -> Arc<About> {
+    pub fn rules_of_portal(&self, name: &[u8]) -> Arc<StatementRules> {
         self.portals.get(name).map(|it| it.about.clone()).unwrap_or_default()
     }
 
     /// Adds a name of SQL, as it is before the text takes effect but for the effects so far.
-    pub fn put_taken(&self, out: &mut Vec<u8>, sort: Sort, name: &[u8], effects: &[Effect]) {
+    pub fn put_taken(
+        &self,
+        out: &mut Vec<u8>,
+        action: NameAction,
+        name: &[u8],
+        effects: &[NameEffect],
+    ) {
         let made = effects.iter().rposition(|effect| match effect {
-            Effect::MakeStatement(it, _) => {
-                matches!(sort, Sort::Execute | Sort::Deallocate) && it == name
+            NameEffect::MakeStatement(it, _) => {
+                matches!(action, NameAction::Execute | NameAction::Deallocate) && it == name
             }
-            Effect::MakePortal(it, _) => matches!(sort, Sort::Fetch | Sort::Close) && it == name,
-            Effect::MakeSavepoint(it) => matches!(sort, Sort::Release | Sort::Back) && it == name,
+            NameEffect::MakePortal(it, _) => {
+                matches!(action, NameAction::Fetch | NameAction::Close) && it == name
+            }
+            NameEffect::MakeSavepoint(it) => {
+                matches!(action, NameAction::Release | NameAction::Back) && it == name
+            }
             _ => false,
         });
         if let Some(place) = made {
             out.extend_from_slice(&[MADE_HERE, place as u8]);
             return;
         }
-        match sort {
-            Sort::Savepoint | Sort::Declare | Sort::Prepare => out.push(MADE_HERE),
-            Sort::Deallocate | Sort::Close if name == b"all" => out.push(ALL),
-            Sort::Execute => self.put_statement(out, name, false),
-            Sort::Deallocate => self.put_statement(out, name, true),
-            Sort::Fetch => self.put_portal(out, name, false),
-            Sort::Close => self.put_portal(out, name, true),
-            Sort::Release | Sort::Back => {
+        match action {
+            NameAction::Savepoint | NameAction::Declare | NameAction::Prepare => {
+                out.push(MADE_HERE)
+            }
+            NameAction::Deallocate | NameAction::Close if name == b"all" => out.push(ALL),
+            NameAction::Execute => self.put_statement(out, name, false),
+            NameAction::Deallocate => self.put_statement(out, name, true),
+            NameAction::Fetch => self.put_portal(out, name, false),
+            NameAction::Close => self.put_portal(out, name, true),
+            NameAction::Release | NameAction::Back => {
                 let found = self.savepoints.iter().rev().find(|(it, _)| it == name);
                 put_name(out, found.map(|(_, it)| it), name, false);
             }
@@ -160,9 +172,9 @@ impl Names {
     }
 
     /// The place of the savepoint that these effects go back to first.
-    pub fn undone(&self, effects: &[Effect]) -> Option<usize> {
+    pub fn undone(&self, effects: &[NameEffect]) -> Option<usize> {
         let name = effects.iter().find_map(|it| match it {
-            Effect::Back(name) => Some(name),
+            NameEffect::Back(name) => Some(name),
             _ => None,
         });
         self.savepoints.iter().rposition(|(it, _)| Some(it) == name)
@@ -172,36 +184,38 @@ impl Names {
         self.savepoints.len()
     }
 
-    /// Does what a message of a form does.
-    pub fn settle(&mut self, form: u32, effects: &mut Vec<Effect>) {
+    /// Does what a message with a fingerprint does.
+    pub fn settle(&mut self, fingerprint: u32, effects: &mut Vec<NameEffect>) {
         for (place, effect) in effects.drain(..).enumerate() {
-            self.apply(form, place as u32, effect);
+            self.apply(fingerprint, place as u32, effect);
         }
     }
 
-    fn apply(&mut self, form: u32, place: u32, effect: Effect) {
-        let made = |nth: usize, about| Definition { form, nth: place + nth as u32, about };
+    fn apply(&mut self, fingerprint: u32, place: u32, effect: NameEffect) {
+        let made =
+            |nth: usize, about| NameDefinition { fingerprint, nth: place + nth as u32, about };
         match effect {
-            Effect::MakeStatement(name, about) => {
+            NameEffect::MakeStatement(name, about) => {
                 self.statements.insert(name, made(0, about));
             }
-            Effect::MakePortal(name, about) => {
+            NameEffect::MakePortal(name, about) => {
                 // The unnamed one is made anew each time.
                 self.portals.remove(&name);
-                let alike = self.portals.values().filter(|it| it.form == form).count();
+                let alike =
+                    self.portals.values().filter(|it| it.fingerprint == fingerprint).count();
                 self.portals.insert(name, made(alike, about));
             }
-            Effect::MakeSavepoint(name) => {
+            NameEffect::MakeSavepoint(name) => {
                 let alike = self.savepoints.len();
                 self.savepoints.push((name, made(alike, Arc::default())));
             }
-            Effect::DropStatements => self.statements.clear(),
-            Effect::DropStatement(name) => drop(self.statements.remove(&name)),
-            Effect::DropPortals => self.portals.clear(),
-            Effect::DropPortal(name) => drop(self.portals.remove(&name)),
-            Effect::Release(name) => self.cut_savepoints(&name, 0),
-            Effect::Back(name) => self.cut_savepoints(&name, 1),
-            Effect::Nothing => {}
+            NameEffect::DropStatements => self.statements.clear(),
+            NameEffect::DropStatement(name) => drop(self.statements.remove(&name)),
+            NameEffect::DropPortals => self.portals.clear(),
+            NameEffect::DropPortal(name) => drop(self.portals.remove(&name)),
+            NameEffect::Release(name) => self.cut_savepoints(&name, 0),
+            NameEffect::Back(name) => self.cut_savepoints(&name, 1),
+            NameEffect::Nothing => {}
         }
     }
 

@@ -1,12 +1,12 @@
 //! What SQL says of a transaction that only reads: that it does, which snapshot it imports, and what its statements do to the
 //! session, so that a later one may depend on them.
 
-use super::names::Sort;
+use super::names::NameAction;
 use super::sql::{ends_of_statements, folded, name_of, naming, pattern, SPACE};
 
 /// What a statement does to its session.
 #[derive(Clone, Debug, PartialEq, Eq)]
-pub enum Deed {
+pub enum StatementEffect {
     /// It reads or locks tables, and leaves nothing that a later answer depends on.
     Reads,
     MakesCursor(Vec<u8>),
@@ -65,7 +65,7 @@ pub fn imported(text: &[u8]) -> Option<&[u8]> {
 }
 
 /// What the statements of a text do, in their order.
-pub fn deeds(text: &[u8]) -> Vec<Deed> {
+pub fn statement_effects(text: &[u8]) -> Vec<StatementEffect> {
     let ends = ends_of_statements(text);
     let begins = [0].into_iter().chain(ends.iter().copied());
     begins
@@ -74,28 +74,30 @@ pub fn deeds(text: &[u8]) -> Vec<Deed> {
         .collect()
 }
 
-fn deed(statement: &[u8]) -> Deed {
+fn deed(statement: &[u8]) -> StatementEffect {
     let body = statement.strip_suffix(b";").unwrap_or(statement);
     if pattern!(&PLAIN.replace("SP", SPACE)).is_match(body) {
-        return Deed::Reads;
+        return StatementEffect::Reads;
     }
     if pattern!(&LEAVING.replace("SP", SPACE)).is_match(body) {
-        return Deed::Leaves;
+        return StatementEffect::Leaves;
     }
-    let Some((sort, place)) = naming().captures(body).and_then(|it| name_of(&it)) else {
+    let Some((action, place)) = naming().captures(body).and_then(|it| name_of(&it)) else {
         return match pattern!(&QUERY.replace("SP", SPACE)).is_match(body) {
-            true => Deed::Reads,
-            false => Deed::Leaves,
+            true => StatementEffect::Reads,
+            false => StatementEffect::Leaves,
         };
     };
     let name = folded(&body[place]).into_owned();
-    match sort {
-        Sort::Savepoint | Sort::Release | Sort::Back => Deed::Savepoint,
-        Sort::Declare => Deed::MakesCursor(name),
-        Sort::Fetch | Sort::Close => Deed::TakesCursor(name),
-        Sort::Prepare => Deed::MakesStatement(name),
-        Sort::Execute => Deed::TakesStatement(name),
-        Sort::Deallocate => Deed::Reads,
+    match action {
+        NameAction::Savepoint | NameAction::Release | NameAction::Back => {
+            StatementEffect::Savepoint
+        }
+        NameAction::Declare => StatementEffect::MakesCursor(name),
+        NameAction::Fetch | NameAction::Close => StatementEffect::TakesCursor(name),
+        NameAction::Prepare => StatementEffect::MakesStatement(name),
+        NameAction::Execute => StatementEffect::TakesStatement(name),
+        NameAction::Deallocate => StatementEffect::Reads,
     }
 }
 
@@ -143,7 +145,10 @@ mod tests {
             "-- all\nEXPLAIN SELECT 1",
             "SELECT oid FROM pg_proc WHERE proname IN ('lo_open', 'set_config')",
         ] {
-            assert!(deeds(text.as_bytes()).iter().all(|it| *it == Deed::Reads), "{text}");
+            assert!(
+                statement_effects(text.as_bytes()).iter().all(|it| *it == StatementEffect::Reads),
+                "{text}"
+            );
         }
         for text in [
             "SET search_path = a",
@@ -156,7 +161,7 @@ mod tests {
             "DO $$ BEGIN; END $$",
             "SELECTED",
         ] {
-            assert_eq!(deeds(text.as_bytes()), [Deed::Leaves], "{text}");
+            assert_eq!(statement_effects(text.as_bytes()), [StatementEffect::Leaves], "{text}");
         }
     }
 
@@ -166,13 +171,13 @@ mod tests {
             SAVEPOINT c; SET a = 1";
         let [cursor, statement] = [b"A".to_vec(), b"b".to_vec()];
         let all = [
-            Deed::MakesCursor(cursor.clone()),
-            Deed::TakesCursor(cursor),
-            Deed::MakesStatement(statement.clone()),
-            Deed::TakesStatement(statement),
-            Deed::Savepoint,
-            Deed::Leaves,
+            StatementEffect::MakesCursor(cursor.clone()),
+            StatementEffect::TakesCursor(cursor),
+            StatementEffect::MakesStatement(statement.clone()),
+            StatementEffect::TakesStatement(statement),
+            StatementEffect::Savepoint,
+            StatementEffect::Leaves,
         ];
-        assert_eq!(deeds(text), all);
+        assert_eq!(statement_effects(text), all);
     }
 }

@@ -1,7 +1,7 @@
 //! The text of SQL as it is compared: names that it makes or takes stand for what they name, and literals of some kinds
 //! are left out.
 
-use super::names::{Effect, Names, Sort};
+use super::names::{NameAction, NameEffect, SessionNames};
 use super::LiteralKind;
 use regex::bytes::{Captures, Regex};
 use std::borrow::Cow;
@@ -69,8 +69,8 @@ pub fn put(
     out: &mut Vec<u8>,
     text: &[u8],
     literals: &[LiteralKind],
-    names: &Names,
-    effects: &mut Vec<Effect>,
+    names: &SessionNames,
+    effects: &mut Vec<NameEffect>,
 ) {
     if literals.is_empty() && !pattern!(VERBS).is_match(text) {
         out.extend_from_slice(text);
@@ -87,8 +87,8 @@ pub fn put(
 /// Where the statements of a text end that a semicolon ends.
 pub(super) fn ends_of_statements(text: &[u8]) -> Vec<usize> {
     let mut ends = Vec::new();
-    for (token, range) in Tokens::of(text) {
-        if token == Token::Semicolon {
+    for (token, range) in Tokenizer::of(text) {
+        if token == TokenKind::Semicolon {
             ends.push(range.end);
         }
     }
@@ -96,7 +96,7 @@ pub(super) fn ends_of_statements(text: &[u8]) -> Vec<usize> {
 }
 
 #[derive(Clone, Copy, PartialEq, Eq)]
-enum Token {
+enum TokenKind {
     Text,
     Number,
     Semicolon,
@@ -104,14 +104,14 @@ enum Token {
 }
 
 /// The tokens of a text one by one.
-struct Tokens<'t> {
+struct Tokenizer<'t> {
     text: &'t [u8],
     at: usize,
 }
 
-impl<'t> Tokens<'t> {
-    fn of(text: &'t [u8]) -> Tokens<'t> {
-        Tokens { text, at: 0 }
+impl<'t> Tokenizer<'t> {
+    fn of(text: &'t [u8]) -> Tokenizer<'t> {
+        Tokenizer { text, at: 0 }
     }
 
     /// Where a text between dollars ends, of which the first tag is at a place.
@@ -123,24 +123,24 @@ impl<'t> Tokens<'t> {
     }
 }
 
-impl Iterator for Tokens<'_> {
-    type Item = (Token, Range<usize>);
+impl Iterator for Tokenizer<'_> {
+    type Item = (TokenKind, Range<usize>);
 
-    fn next(&mut self) -> Option<(Token, Range<usize>)> {
+    fn next(&mut self) -> Option<(TokenKind, Range<usize>)> {
         let found = pattern!(TOKENS).captures(&self.text[self.at..])?;
         let mut range = self.at..self.at + found.get(0)?.end();
         let is = |name| found.name(name).is_some();
         let token = if is("semicolon") {
-            Token::Semicolon
+            TokenKind::Semicolon
         } else if is("text") {
-            Token::Text
+            TokenKind::Text
         } else if is("number") {
-            Token::Number
+            TokenKind::Number
         } else if is("dollar") {
             range.end = self.end_of_dollars(&range);
-            Token::Text
+            TokenKind::Text
         } else {
-            Token::Other
+            TokenKind::Other
         };
         self.at = range.end;
         Some((token, range))
@@ -151,37 +151,37 @@ fn put_statement(
     out: &mut Vec<u8>,
     text: &[u8],
     literals: &[LiteralKind],
-    names: &Names,
-    effects: &mut Vec<Effect>,
+    names: &SessionNames,
+    effects: &mut Vec<NameEffect>,
 ) {
     let body = text.strip_suffix(b";").unwrap_or(text);
-    let Some((sort, place)) = naming().captures(body).and_then(|it| name_of(&it)) else {
+    let Some((action, place)) = naming().captures(body).and_then(|it| name_of(&it)) else {
         put_text(out, text, literals);
         return;
     };
     let name = folded(&body[place.clone()]);
     put_text(out, &text[..place.start], literals);
     out.push(MARK);
-    names.put_taken(out, sort, &name, effects);
+    names.put_taken(out, action, &name, effects);
     put_text(out, &text[place.end..], literals);
-    let holds = sort == Sort::Declare && pattern!(r"(?i-u)\bWITH\s+HOLD\b").is_match(text);
-    effects.push(Effect::of(sort, name.into_owned(), holds));
+    let holds = action == NameAction::Declare && pattern!(r"(?i-u)\bWITH\s+HOLD\b").is_match(text);
+    effects.push(NameEffect::of(action, name.into_owned(), holds));
 }
 
 /// What a statement does with which name.
-pub(super) fn name_of(found: &Captures<'_>) -> Option<(Sort, Range<usize>)> {
-    let sorts = [
-        ("savepoint", Sort::Savepoint),
-        ("release", Sort::Release),
-        ("back", Sort::Back),
-        ("declare", Sort::Declare),
-        ("prepare", Sort::Prepare),
-        ("execute", Sort::Execute),
-        ("deallocate", Sort::Deallocate),
-        ("close", Sort::Close),
-        ("fetch", Sort::Fetch),
+pub(super) fn name_of(found: &Captures<'_>) -> Option<(NameAction, Range<usize>)> {
+    let actions = [
+        ("savepoint", NameAction::Savepoint),
+        ("release", NameAction::Release),
+        ("back", NameAction::Back),
+        ("declare", NameAction::Declare),
+        ("prepare", NameAction::Prepare),
+        ("execute", NameAction::Execute),
+        ("deallocate", NameAction::Deallocate),
+        ("close", NameAction::Close),
+        ("fetch", NameAction::Fetch),
     ];
-    sorts.into_iter().find_map(|(name, sort)| Some((sort, found.name(name)?.range())))
+    actions.into_iter().find_map(|(name, action)| Some((action, found.name(name)?.range())))
 }
 
 /// An identifier as the server takes it.
@@ -200,7 +200,7 @@ fn put_text(out: &mut Vec<u8>, text: &[u8], literals: &[LiteralKind]) {
         out.extend_from_slice(text);
         return;
     }
-    for (token, range) in Tokens::of(text) {
+    for (token, range) in Tokenizer::of(text) {
         let bytes = &text[range];
         match literals.iter().find(|kind| is_of(**kind, token, bytes)) {
             Some(kind) => out.extend_from_slice(&[MARK, *kind as u8]),
@@ -210,13 +210,13 @@ fn put_text(out: &mut Vec<u8>, text: &[u8], literals: &[LiteralKind]) {
 }
 
 /// Whether a token is a literal of a kind.
-fn is_of(kind: LiteralKind, token: Token, bytes: &[u8]) -> bool {
-    let matches = |pattern: &Regex| token == Token::Text && pattern.is_match(bytes);
+fn is_of(kind: LiteralKind, token: TokenKind, bytes: &[u8]) -> bool {
+    let matches = |pattern: &Regex| token == TokenKind::Text && pattern.is_match(bytes);
     match kind {
         LiteralKind::Number => {
-            token == Token::Number || matches(pattern!(r"(?-u)^'[+-]?[0-9]+(?:\.[0-9]*)?'$"))
+            token == TokenKind::Number || matches(pattern!(r"(?-u)^'[+-]?[0-9]+(?:\.[0-9]*)?'$"))
         }
-        LiteralKind::Text => token == Token::Text,
+        LiteralKind::Text => token == TokenKind::Text,
         LiteralKind::Time => matches(pattern!(
             r"(?-u)^'(?:[0-9]{4}-[0-9]{2}-[0-9]{2}|[0-9]{2}:[0-9]{2})[0-9T :.+Z-]*'$"
         )),
@@ -230,14 +230,14 @@ fn is_of(kind: LiteralKind, token: Token, bytes: &[u8]) -> bool {
 mod tests {
     use super::*;
 
-    fn form(text: &str, literals: &[LiteralKind]) -> Vec<u8> {
+    fn fingerprint(text: &str, literals: &[LiteralKind]) -> Vec<u8> {
         let mut out = Vec::new();
-        put(&mut out, text.as_bytes(), literals, &Names::default(), &mut Vec::new());
+        put(&mut out, text.as_bytes(), literals, &SessionNames::default(), &mut Vec::new());
         out
     }
 
     fn are_alike(one: &str, other: &str, literals: &[LiteralKind]) -> bool {
-        form(one, literals) == form(other, literals)
+        fingerprint(one, literals) == fingerprint(other, literals)
     }
 
     #[test]

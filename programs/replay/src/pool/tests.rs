@@ -1,19 +1,19 @@
 //! Recordings of short sessions, which clients say again.
 
 use super::*;
-use crate::fingerprint::{Former, UNRECORDED};
+use crate::fingerprint::{Fingerprinter, UNRECORDED};
 use crate::recorded::load;
-use crate::rules::Rules;
+use crate::rules::ReplayRules;
 use pgmsg::backend::{Authentication, BackendKeyData, Message, TransactionStatus};
 use pgmsg::frontend;
 use recording::{RecordKind, Side, Writer};
 use std::sync::atomic::{AtomicU32, Ordering};
 
 /// The numbers of a connection and of a message in it.
-type Place = (u32, u32);
+type MessagePosition = (u32, u32);
 
 /// The texts and answers of a session.
-type Exchanges<'a> = &'a [(&'a str, &'a str)];
+type TestExchanges<'a> = &'a [(&'a str, &'a str)];
 
 const STARTUP: &[u8] = b"\0\0\0\x12\0\x03\0\0user\0ann\0\0";
 
@@ -33,7 +33,7 @@ fn answer(messages: &[Message<'_>]) -> Vec<u8> {
 fn records(
     number: u32,
     begun: u64,
-    exchanges: Exchanges<'_>,
+    exchanges: TestExchanges<'_>,
 ) -> Vec<(u64, u32, RecordKind, Vec<u8>)> {
     let key = BackendKeyData { process_id: number, secret_key: b"1234".as_slice().into() };
     let ready = |is_open| match is_open {
@@ -58,7 +58,7 @@ fn records(
 }
 
 /// A pool of sessions, each of which was begun at a time.
-fn pool(sessions: &[(u64, Exchanges<'_>)], again: bool) -> Pool {
+fn pool(sessions: &[(u64, TestExchanges<'_>)], again: bool) -> Pool {
     static NUMBER: AtomicU32 = AtomicU32::new(0);
     let name = format!("pool.{}.{}", std::process::id(), NUMBER.fetch_add(1, Ordering::Relaxed));
     let path = std::env::temp_dir().join(name);
@@ -72,42 +72,52 @@ fn pool(sessions: &[(u64, Exchanges<'_>)], again: bool) -> Pool {
         writer.add(kind, number, time, &content).expect("a record");
     }
     writer.end().expect("a recording");
-    let tape = load(&path, &Arc::new(Rules::default()), false, &|_| ()).expect("a recording");
+    let recording =
+        load(&path, &Arc::new(ReplayRules::default()), false, &|_| ()).expect("a recording");
     std::fs::remove_file(&path).expect("a file");
-    Pool::new(Arc::new(tape), again, again, false)
+    Pool::new(Arc::new(recording), again, again, false)
 }
 
-/// A client, by its seat.
-struct Client {
-    seat: usize,
-    former: Former,
+/// A client, by its slot.
+struct TestClient {
+    slot: usize,
+    fingerprinter: Fingerprinter,
 }
 
-impl Client {
-    fn new(pool: &mut Pool) -> Client {
-        let mut former = Former::new(Arc::new(Rules::default()));
-        let form = pool.tape.forms.find(former.message(None, &STARTUP[4..]));
-        match pool.claim(form) {
-            Claim::Seat(seat) => Client { seat, former },
+impl TestClient {
+    fn new(pool: &mut Pool) -> TestClient {
+        let mut fingerprinter = Fingerprinter::new(Arc::new(ReplayRules::default()));
+        let fingerprint =
+            pool.recording.fingerprints.find(fingerprinter.message(None, &STARTUP[4..]));
+        match pool.claim(fingerprint) {
+            Claim::Slot(slot) => TestClient { slot, fingerprinter },
             claim => panic!("{claim:?}"),
         }
     }
 
     /// Says texts. Answers the place of the last in the recording, as the numbers of its connection and message, and that of its
     /// rival; none where it differs.
-    fn say(&mut self, pool: &mut Pool, texts: &[&str]) -> Option<(Place, Option<Place>)> {
+    fn say(
+        &mut self,
+        pool: &mut Pool,
+        texts: &[&str],
+    ) -> Option<(MessagePosition, Option<MessagePosition>)> {
         let mut last = None;
         for text in texts {
             let message = query(text);
-            let form = pool.tape.forms.find(self.former.message(Some(b'Q'), &message[5..]));
-            let Step::Fits(fit) = pool.step(self.seat, form).expect("the recording") else {
+            let fingerprint = pool
+                .recording
+                .fingerprints
+                .find(self.fingerprinter.message(Some(b'Q'), &message[5..]));
+            let RequestMatch::Fits(fit) = pool.step(self.slot, fingerprint).expect("the recording")
+            else {
                 return None;
             };
-            self.former.settle(form);
+            self.fingerprinter.settle(fingerprint);
             last = Some(fit);
         }
-        let place = |it| (pool.tape.connection_of(it), pool.tape.script.number(it));
-        last.map(|fit| (place(fit.said), fit.rival.map(place)))
+        let place = |it| (pool.recording.connection_of(it), pool.recording.requests.number(it));
+        last.map(|fit| (place(fit.request), fit.rival.map(place)))
     }
 }
 
@@ -115,14 +125,14 @@ impl Client {
 fn a_client_follows_its_connection() {
     let mut pool = pool(&[(0, &[("a", "1"), ("b", "2")]), (10, &[("a", "1"), ("c", "3")])], false);
     assert_eq!(pool.claim(UNRECORDED), Claim::Differs(Some(0)));
-    let (mut one, mut other) = (Client::new(&mut pool), Client::new(&mut pool));
+    let (mut one, mut other) = (TestClient::new(&mut pool), TestClient::new(&mut pool));
     assert_eq!(one.say(&mut pool, &["a"]), Some(((1, 2), None)));
     assert_eq!(one.say(&mut pool, &["b"]), Some(((1, 3), None)));
     assert_eq!(other.say(&mut pool, &["a", "c"]), Some(((2, 3), None)));
     assert_eq!(other.say(&mut pool, &["c"]), None);
     assert!(matches!(pool.claim(0), Claim::Differs(None)));
     for client in [one, other] {
-        pool.leave(client.seat, true);
+        pool.leave(client.slot, true);
     }
     assert_eq!((pool.is_done(), pool.replayed(), pool.first_unsaid()), (true, 2, None));
 }
@@ -132,7 +142,7 @@ fn a_client_takes_what_another_connection_said() {
     let exchanges = [("BEGIN", "0"), ("a", "1"), ("COMMIT", "2"), ("b", "3")];
     let others = [("BEGIN", "0"), ("c", "1"), ("COMMIT", "2"), ("d", "3")];
     let mut pool = pool(&[(0, &exchanges), (1, &others)], false);
-    let (mut one, mut other) = (Client::new(&mut pool), Client::new(&mut pool));
+    let (mut one, mut other) = (TestClient::new(&mut pool), TestClient::new(&mut pool));
     assert_eq!(one.say(&mut pool, &["BEGIN"]), Some(((1, 2), None)));
     assert_eq!(other.say(&mut pool, &["BEGIN"]), Some(((2, 2), None)));
     // Both have begun alike, and change places.
@@ -143,9 +153,9 @@ fn a_client_takes_what_another_connection_said() {
 }
 
 /// The rival of what a client says, who has the first of sessions that begin at these times.
-fn rival(sessions: &[(u64, Exchanges<'_>)], texts: &[&str]) -> Option<Place> {
+fn rival(sessions: &[(u64, TestExchanges<'_>)], texts: &[&str]) -> Option<MessagePosition> {
     let mut pool = pool(sessions, false);
-    let mut client = Client::new(&mut pool);
+    let mut client = TestClient::new(&mut pool);
     let (_, rival) = client.say(&mut pool, texts).expect("what is recorded");
     rival
 }
@@ -191,10 +201,10 @@ fn connections_that_were_open_together_are_those_of_a_pool() {
 
 #[test]
 fn what_a_client_had_is_no_rival_unless_it_is_served_again() {
-    let sessions: [(u64, Exchanges<'_>); 2] = [(0, &[("a", "1")]), (1, &[("a", "2")])];
+    let sessions: [(u64, TestExchanges<'_>); 2] = [(0, &[("a", "1")]), (1, &[("a", "2")])];
     for (again, found) in [(false, None), (true, Some((1, 2)))] {
         let mut pool = pool(&sessions, again);
-        let (mut one, mut other) = (Client::new(&mut pool), Client::new(&mut pool));
+        let (mut one, mut other) = (TestClient::new(&mut pool), TestClient::new(&mut pool));
         assert_eq!(one.say(&mut pool, &["a"]), Some(((1, 2), Some((2, 2)))));
         assert_eq!(other.say(&mut pool, &["a"]), Some(((2, 2), found)), "{again}");
     }
@@ -202,11 +212,11 @@ fn what_a_client_had_is_no_rival_unless_it_is_served_again() {
 
 #[test]
 fn a_rival_is_passed_over_once_it_is_told() {
-    let sessions: [(u64, Exchanges<'_>); 2] =
+    let sessions: [(u64, TestExchanges<'_>); 2] =
         [(0, &[("a", "1"), ("a", "2")]), (1, &[("a", "3"), ("a", "4")])];
     let mut pool = pool(&sessions, true);
-    let mut client = Client::new(&mut pool);
+    let mut client = TestClient::new(&mut pool);
     assert_eq!(client.say(&mut pool, &["a"]), Some(((1, 2), Some((2, 2)))));
-    pool.pass_over_rivals(pool.tape.connections[0].startup + 1);
+    pool.pass_over_rivals(pool.recording.connections[0].startup + 1);
     assert_eq!(client.say(&mut pool, &["a"]), Some(((1, 3), None)));
 }

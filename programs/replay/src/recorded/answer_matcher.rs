@@ -15,12 +15,12 @@ pub enum Wait {
     /// So many milliseconds pass, as they did.
     Time(u32),
     /// This message was said, by whichever client.
-    Said(usize),
+    Request(usize),
 }
 
 /// What a client's message is, as far as it matters for its answer.
 #[derive(Clone, Copy, Debug, PartialEq, Eq)]
-pub enum Sort {
+pub enum RequestKind {
     Startup,
     Query,
     Call,
@@ -34,35 +34,38 @@ pub enum Sort {
     DataEnd,
 }
 
-impl Sort {
+impl RequestKind {
     /// Whether a ReadyForQuery ends its answer.
     fn ends_exchange(self) -> bool {
-        matches!(self, Sort::Startup | Sort::Query | Sort::Call | Sort::Sync)
+        matches!(
+            self,
+            RequestKind::Startup | RequestKind::Query | RequestKind::Call | RequestKind::Sync
+        )
     }
 
     /// Whether a server's message of this tag can answer it. Those that answer any are not asked for.
     fn is_answered_by(self, tag: u8) -> bool {
         match self {
-            Sort::Startup => matches!(tag, b'R' | b'K' | b'v'),
-            Sort::Query => true,
-            Sort::Call => tag == b'V',
-            Sort::Parse => tag == b'1',
-            Sort::Bind => tag == b'2',
-            Sort::Describe => matches!(tag, b't' | b'T' | b'n'),
-            Sort::Execute => {
+            RequestKind::Startup => matches!(tag, b'R' | b'K' | b'v'),
+            RequestKind::Query => true,
+            RequestKind::Call => tag == b'V',
+            RequestKind::Parse => tag == b'1',
+            RequestKind::Bind => tag == b'2',
+            RequestKind::Describe => matches!(tag, b't' | b'T' | b'n'),
+            RequestKind::Execute => {
                 matches!(tag, b'D' | b'C' | b'I' | b's' | b'H' | b'd' | b'c' | b'G' | b'W')
             }
-            Sort::Close => tag == b'3',
-            Sort::Sync | Sort::Data | Sort::DataEnd => false,
+            RequestKind::Close => tag == b'3',
+            RequestKind::Sync | RequestKind::Data | RequestKind::DataEnd => false,
         }
     }
 
     /// Whether nothing more answers it after a message of this tag.
     fn is_done_by(self, tag: u8) -> bool {
         match self {
-            Sort::Parse | Sort::Bind | Sort::Close => true,
-            Sort::Describe => matches!(tag, b'T' | b'n'),
-            Sort::Execute => matches!(tag, b'C' | b'I' | b's'),
+            RequestKind::Parse | RequestKind::Bind | RequestKind::Close => true,
+            RequestKind::Describe => matches!(tag, b'T' | b'n'),
+            RequestKind::Execute => matches!(tag, b'C' | b'I' | b's'),
             _ => false,
         }
     }
@@ -70,9 +73,9 @@ impl Sort {
 
 /// A COPY to the server that isn't over.
 #[derive(Clone, Copy, Debug)]
-struct Copy {
+struct CopyIn {
     /// The last message of it.
-    said: usize,
+    request: usize,
     is_extended: bool,
     /// Data go both ways, as in replication.
     is_both: bool,
@@ -82,9 +85,9 @@ struct Copy {
 
 /// Where a server's message belongs.
 #[derive(Clone, Copy, Debug, PartialEq, Eq)]
-pub enum Target {
+pub enum AnswerTarget {
     /// It answers this message.
-    Said(usize),
+    Request(usize),
     /// It came by itself after the answer to this one.
     After(usize),
     /// It answers the end of a COPY's data, or the last of them where none is said.
@@ -93,47 +96,47 @@ pub enum Target {
 
 /// Follows both sides of a connection.
 #[derive(Debug, Default)]
-pub struct Causes {
-    queue: VecDeque<(usize, Sort)>,
+pub struct AnswerMatcher {
+    queue: VecDeque<(usize, RequestKind)>,
     /// An error was reported, and the server takes nothing before a Sync.
     is_skipping: bool,
-    copy: Option<Copy>,
+    copy: Option<CopyIn>,
     last: usize,
 }
 
-impl Causes {
+impl AnswerMatcher {
     /// Whether data go both ways.
     pub fn is_both(&self) -> bool {
         self.copy.map_or(false, |it| it.is_both)
     }
 
     /// Takes a message of the client, by its number. Answers to which message those belong that were held.
-    pub fn said(&mut self, number: usize, sort: Sort) -> Option<usize> {
+    pub fn request(&mut self, number: usize, kind: RequestKind) -> Option<usize> {
         let mut freed = None;
         if let Some(copy) = self.copy.as_mut() {
-            match sort {
-                Sort::Data => {
-                    copy.said = number;
+            match kind {
+                RequestKind::Data => {
+                    copy.request = number;
                     return None;
                 }
-                Sort::Sync if copy.is_extended && !copy.has_failed => return None,
-                Sort::DataEnd if !copy.has_failed => {
+                RequestKind::Sync if copy.is_extended && !copy.has_failed => return None,
+                RequestKind::DataEnd if !copy.has_failed => {
                     self.end_copy(number);
                     return None;
                 }
-                Sort::DataEnd => copy.said = number,
+                RequestKind::DataEnd => copy.request = number,
                 _ => {}
             }
-            freed = copy.has_failed.then_some(copy.said);
+            freed = copy.has_failed.then_some(copy.request);
             self.is_skipping = copy.has_failed && copy.is_extended;
             self.copy = None;
-            if sort == Sort::DataEnd {
+            if kind == RequestKind::DataEnd {
                 return freed;
             }
         }
-        if !self.is_skipping || sort == Sort::Sync {
+        if !self.is_skipping || kind == RequestKind::Sync {
             self.is_skipping = false;
-            self.queue.push_back((number, sort));
+            self.queue.push_back((number, kind));
         }
         freed
     }
@@ -147,41 +150,41 @@ impl Causes {
     }
 
     /// Where a server's message belongs, by its tag.
-    pub fn heard(&mut self, tag: u8) -> Target {
+    pub fn answer(&mut self, tag: u8) -> AnswerTarget {
         let target = match tag {
             b'N' | b'S' | b'A' => self.front(),
-            b'E' => self.heard_error(),
-            b'Z' => self.heard_ready(),
-            _ => self.heard_answer(tag),
+            b'E' => self.on_error(),
+            b'Z' => self.on_ready(),
+            _ => self.on_answer(tag),
         };
-        if let Target::Said(number) = target {
+        if let AnswerTarget::Request(number) = target {
             self.last = number;
         }
         target
     }
 
-    fn front(&self) -> Target {
+    fn front(&self) -> AnswerTarget {
         match self.queue.front() {
-            Some((number, _)) => Target::Said(*number),
-            None => Target::After(self.last),
+            Some((number, _)) => AnswerTarget::Request(*number),
+            None => AnswerTarget::After(self.last),
         }
     }
 
-    fn heard_error(&mut self) -> Target {
+    fn on_error(&mut self) -> AnswerTarget {
         if let Some(copy) = self.copy.as_mut().filter(|it| !it.is_both) {
             copy.has_failed = true;
             if copy.is_extended {
                 self.skip_to_sync();
             }
-            return Target::Held;
+            return AnswerTarget::Held;
         }
         self.copy = None;
-        while matches!(self.queue.front(), Some((_, Sort::Data | Sort::DataEnd))) {
+        while matches!(self.queue.front(), Some((_, RequestKind::Data | RequestKind::DataEnd))) {
             self.queue.pop_front();
         }
         let target = self.front();
         match self.queue.front() {
-            None | Some((_, Sort::Startup | Sort::Query | Sort::Call)) => {}
+            None | Some((_, RequestKind::Startup | RequestKind::Query | RequestKind::Call)) => {}
             Some(_) => self.is_skipping = !self.skip_to_sync(),
         }
         target
@@ -189,53 +192,53 @@ impl Causes {
 
     /// Forgets what the server doesn't take after an error. Answers whether a Sync is there already.
     fn skip_to_sync(&mut self) -> bool {
-        while self.queue.front().map_or(false, |(_, sort)| *sort != Sort::Sync) {
+        while self.queue.front().map_or(false, |(_, kind)| *kind != RequestKind::Sync) {
             self.queue.pop_front();
         }
         !self.queue.is_empty()
     }
 
-    fn heard_ready(&mut self) -> Target {
+    fn on_ready(&mut self) -> AnswerTarget {
         if self.copy.map_or(false, |it| it.has_failed && !it.is_extended) {
             self.queue.pop_front();
-            return Target::Held;
+            return AnswerTarget::Held;
         }
-        while let Some((number, sort)) = self.queue.pop_front() {
-            if sort.ends_exchange() {
-                return Target::Said(number);
+        while let Some((number, kind)) = self.queue.pop_front() {
+            if kind.ends_exchange() {
+                return AnswerTarget::Request(number);
             }
         }
-        Target::After(self.last)
+        AnswerTarget::After(self.last)
     }
 
-    fn heard_answer(&mut self, tag: u8) -> Target {
+    fn on_answer(&mut self, tag: u8) -> AnswerTarget {
         let mut asked = self.queue.iter().take(LOOKED_AT);
-        let Some(place) = asked.position(|(_, sort)| sort.is_answered_by(tag)) else {
+        let Some(place) = asked.position(|(_, kind)| kind.is_answered_by(tag)) else {
             return self.front();
         };
         self.queue.drain(..place);
-        let (number, sort) = self.queue[0];
-        if sort.is_done_by(tag) {
+        let (number, kind) = self.queue[0];
+        if kind.is_done_by(tag) {
             self.queue.pop_front();
         }
         if matches!(tag, b'G' | b'W') {
-            self.begin_copy(number, sort == Sort::Execute, tag == b'W');
+            self.begin_copy(number, kind == RequestKind::Execute, tag == b'W');
         }
-        Target::Said(number)
+        AnswerTarget::Request(number)
     }
 
     /// Begins a COPY whose data may have been said already.
-    fn begin_copy(&mut self, said: usize, is_extended: bool, is_both: bool) {
-        self.copy = Some(Copy { said, is_extended, is_both, has_failed: false });
-        while let Some((number, sort)) = self.queue.get(1).copied() {
-            match sort {
-                Sort::Sync if is_extended => {}
-                Sort::Data | Sort::DataEnd => {}
+    fn begin_copy(&mut self, request: usize, is_extended: bool, is_both: bool) {
+        self.copy = Some(CopyIn { request, is_extended, is_both, has_failed: false });
+        while let Some((number, kind)) = self.queue.get(1).copied() {
+            match kind {
+                RequestKind::Sync if is_extended => {}
+                RequestKind::Data | RequestKind::DataEnd => {}
                 _ => return,
             }
             self.queue.remove(1);
-            self.said(number, sort);
-            if sort == Sort::DataEnd {
+            self.request(number, kind);
+            if kind == RequestKind::DataEnd {
                 return;
             }
         }

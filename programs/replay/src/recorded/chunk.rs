@@ -8,7 +8,7 @@ use std::os::unix::fs::FileExt;
 
 /// The recording isn't what it was any more, or can't be read.
 #[derive(Debug, thiserror::Error)]
-pub enum Changed {
+pub enum RereadError {
     #[error("was changed while it was served")]
     Changed,
     #[error("can't be read: {0}")]
@@ -17,15 +17,15 @@ pub enum Changed {
 
 /// Bytes within one record.
 #[derive(Clone, Copy, Debug)]
-pub struct Piece {
+pub struct Chunk {
     at: u64,
     len: u32,
     checksum: u32,
 }
 
-impl Piece {
-    pub fn of(bytes: &[u8], at: u64) -> Piece {
-        Piece { at, len: bytes.len() as u32, checksum: crc32fast::hash(bytes) }
+impl Chunk {
+    pub fn of(bytes: &[u8], at: u64) -> Chunk {
+        Chunk { at, len: bytes.len() as u32, checksum: crc32fast::hash(bytes) }
     }
 
     /// Where they begin in the file.
@@ -60,41 +60,41 @@ impl Piece {
 pub struct Window {
     at: u64,
     bytes: Vec<u8>,
-    /// Where the last piece of them begins that was compared with its checksum.
+    /// Where the last chunk of them begins that was compared with its checksum.
     checked: Option<u64>,
 }
 
 impl Window {
-    /// The bytes of a piece. Where they aren't here yet, they are read with those that follow up to an end.
-    pub fn piece(
+    /// The bytes of a chunk. Where they aren't here yet, they are read with those that follow up to an end.
+    pub fn chunk(
         &mut self,
-        piece: &Piece,
+        chunk: &Chunk,
         end: impl FnOnce() -> u64,
         file: &File,
-    ) -> Result<&[u8], Changed> {
-        let range = match piece.place_in(self) {
+    ) -> Result<&[u8], RereadError> {
+        let range = match chunk.place_in(self) {
             Some(range) => range,
             None => {
-                self.read(piece.at, end().max(piece.end()) - piece.at, file)?;
-                0..piece.len()
+                self.read(chunk.at, end().max(chunk.end()) - chunk.at, file)?;
+                0..chunk.len()
             }
         };
         let bytes = &self.bytes[range];
-        if self.checked != Some(piece.at) && crc32fast::hash(bytes) != piece.checksum {
-            return Err(Changed::Changed);
+        if self.checked != Some(chunk.at) && crc32fast::hash(bytes) != chunk.checksum {
+            return Err(RereadError::Changed);
         }
-        self.checked = Some(piece.at);
+        self.checked = Some(chunk.at);
         Ok(bytes)
     }
 
-    fn read(&mut self, at: u64, len: u64, file: &File) -> Result<(), Changed> {
+    fn read(&mut self, at: u64, len: u64, file: &File) -> Result<(), RereadError> {
         (self.at, self.checked) = (at, None);
         self.bytes.resize(len as usize, 0);
         file.read_exact_at(&mut self.bytes, at).map_err(|why| {
             self.bytes.clear();
             match why.kind() {
-                io::ErrorKind::UnexpectedEof => Changed::Changed,
-                _ => Changed::File(why),
+                io::ErrorKind::UnexpectedEof => RereadError::Changed,
+                _ => RereadError::File(why),
             }
         })
     }

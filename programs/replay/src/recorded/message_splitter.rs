@@ -5,7 +5,7 @@ use pgmsg::{Decoder, Fault, Next};
 
 /// What is cut off a stream.
 #[derive(Clone, Copy, Debug, PartialEq, Eq)]
-pub enum Cut<'a> {
+pub enum MessageSlice<'a> {
     /// A whole message of up to `MESSAGE_MOST` bytes, from its tag on, or from its length on where it has none.
     Whole(&'a [u8]),
     /// The next bytes of a longer message, the first from its tag on, and how many of it follow.
@@ -14,7 +14,7 @@ pub enum Cut<'a> {
 
 /// Cuts a stream that comes in pieces. Only the front of a message that isn't whole is held.
 #[derive(Debug)]
-pub struct Cutter {
+pub struct MessageSplitter {
     decoder: Decoder,
     held: Vec<u8>,
     is_given: bool,
@@ -22,23 +22,23 @@ pub struct Cutter {
     left: usize,
 }
 
-impl Cutter {
+impl MessageSplitter {
     /// Of a client, from its message without a tag on.
-    pub fn of_connection() -> Cutter {
-        Cutter::new(Decoder::of_client())
+    pub fn of_connection() -> MessageSplitter {
+        MessageSplitter::new(Decoder::of_client())
     }
 
     /// Of a client, from a message with a tag on.
-    pub fn of_client() -> Cutter {
-        Cutter::new(Decoder::of_open_client())
+    pub fn of_client() -> MessageSplitter {
+        MessageSplitter::new(Decoder::of_open_client())
     }
 
-    pub fn of_server() -> Cutter {
-        Cutter::new(Decoder::of_server())
+    pub fn of_server() -> MessageSplitter {
+        MessageSplitter::new(Decoder::of_server())
     }
 
-    fn new(decoder: Decoder) -> Cutter {
-        Cutter { decoder, held: Vec::new(), is_given: false, left: 0 }
+    fn new(decoder: Decoder) -> MessageSplitter {
+        MessageSplitter { decoder, held: Vec::new(), is_given: false, left: 0 }
     }
 
     /// Whether a message has begun that isn't whole.
@@ -47,7 +47,10 @@ impl Cutter {
     }
 
     /// Takes the front of a piece off it. `None` where the piece is empty then, and more is needed.
-    pub fn cut<'a, 'p: 'a>(&'a mut self, piece: &mut &'p [u8]) -> Result<Option<Cut<'a>>, Fault> {
+    pub fn cut<'a, 'p: 'a>(
+        &'a mut self,
+        piece: &mut &'p [u8],
+    ) -> Result<Option<MessageSlice<'a>>, Fault> {
         if self.is_given {
             self.held.clear();
             self.is_given = false;
@@ -60,12 +63,12 @@ impl Cutter {
             if needed > MESSAGE_MOST && self.held.len() >= HEAD {
                 self.left = needed - self.held.len();
                 self.is_given = true;
-                return Ok(Some(Cut::Part(&self.held, self.left)));
+                return Ok(Some(MessageSlice::Part(&self.held, self.left)));
             }
             let missing = needed.saturating_sub(self.held.len());
             if missing == 0 {
                 self.is_given = true;
-                return Ok(Some(Cut::Whole(&self.held)));
+                return Ok(Some(MessageSlice::Whole(&self.held)));
             }
             if piece.is_empty() {
                 return Ok(None);
@@ -81,7 +84,7 @@ impl Cutter {
     fn cut_in_piece<'a, 'p: 'a>(
         &'a mut self,
         piece: &mut &'p [u8],
-    ) -> Result<Option<Cut<'a>>, Fault> {
+    ) -> Result<Option<MessageSlice<'a>>, Fault> {
         if piece.is_empty() {
             return Ok(None);
         }
@@ -89,7 +92,7 @@ impl Cutter {
         if needed <= piece.len() {
             let (bytes, rest) = piece.split_at(needed);
             *piece = rest;
-            return Ok(Some(Cut::Whole(bytes)));
+            return Ok(Some(MessageSlice::Whole(bytes)));
         }
         if needed > MESSAGE_MOST && piece.len() >= HEAD {
             self.left = needed;
@@ -100,14 +103,14 @@ impl Cutter {
         Ok(None)
     }
 
-    fn part<'p>(&mut self, piece: &mut &'p [u8]) -> Option<Cut<'p>> {
+    fn part<'p>(&mut self, piece: &mut &'p [u8]) -> Option<MessageSlice<'p>> {
         if piece.is_empty() {
             return None;
         }
         let (bytes, rest) = piece.split_at(self.left.min(piece.len()));
         self.left -= bytes.len();
         *piece = rest;
-        Some(Cut::Part(bytes, self.left))
+        Some(MessageSlice::Part(bytes, self.left))
     }
 }
 
@@ -126,13 +129,13 @@ mod tests {
 
     /// What is cut off a stream in pieces of a length: the bytes of each message.
     fn messages(stream: &[u8], step: usize) -> Vec<Vec<u8>> {
-        let (mut cutter, mut all) = (Cutter::of_client(), Vec::new());
+        let (mut splitter, mut all) = (MessageSplitter::of_client(), Vec::new());
         let mut is_within = false;
         for mut piece in stream.chunks(step) {
-            while let Some(cut) = cutter.cut(&mut piece).expect("messages") {
+            while let Some(cut) = splitter.cut(&mut piece).expect("messages") {
                 match cut {
-                    Cut::Whole(bytes) => all.push(bytes.to_vec()),
-                    Cut::Part(bytes, left) => {
+                    MessageSlice::Whole(bytes) => all.push(bytes.to_vec()),
+                    MessageSlice::Part(bytes, left) => {
                         if !is_within {
                             all.push(Vec::new());
                         }

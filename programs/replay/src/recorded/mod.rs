@@ -11,16 +11,16 @@ mod requests;
 mod snapshots;
 
 pub use answer_matcher::Wait;
-pub use chunk::{Changed, Piece, Window};
+pub use chunk::{Chunk, RereadError, Window};
 pub use connection_builder::is_state_of_standby;
 pub use loader::{load, plain};
-pub use message_splitter::{Cut, Cutter};
-pub use request_reader::SpokenReader;
-use requests::Spoken;
-pub use requests::{Place, Script, What};
+pub use message_splitter::{MessageSlice, MessageSplitter};
+pub use request_reader::RequestReader;
+use requests::ClientChunk;
+pub use requests::{ChunkOffset, CompareBy, Requests};
 
-use crate::fingerprint::{Former, Forms};
-use crate::rules::Rules;
+use crate::fingerprint::{Fingerprinter, Fingerprints};
+use crate::rules::ReplayRules;
 use crc32fast::Hasher;
 use pgmsg::frontend::Message;
 use std::collections::HashMap;
@@ -44,15 +44,16 @@ pub const HEAD: usize = 5;
 /// How many messages are looked at for the statement of a difference.
 const LOOKED_BACK: usize = 1000;
 
-pub struct Tape {
+/// What a recording has, by which clients are answered.
+pub struct Recording {
     pub path: PathBuf,
     file: File,
-    pub forms: Forms,
+    pub fingerprints: Fingerprints,
     pub connections: Vec<Connection>,
     pub turns: Vec<Turn>,
-    pub script: Script,
+    pub requests: Requests,
     /// What the server said, in the order of what it answers.
-    heard: Vec<Piece>,
+    answers: Vec<Chunk>,
     /// What parts of answers wait for, by their offsets.
     waits: HashMap<u64, Wait>,
     /// The turns after which a transaction goes on that reads what others read, with the number of the snapshot.
@@ -69,21 +70,21 @@ pub struct Connection {
     pub number: u32,
     /// What it is known by in others.
     pub identity: u64,
-    /// Where its Startup is in `said`.
+    /// Where its Startup is among the requests.
     pub startup: usize,
     pub turns: Range<usize>,
     /// When its client came and said the last of it, or when it was closed otherwise, in microseconds.
     pub open: Range<u64>,
     /// The checksum of what was heard of its Startup, without the key that each connection has of its own.
     pub login: u32,
-    pub ending: Ending,
+    pub ending: ConnectionEnding,
     /// The server had asked for a password, and heard nothing more.
     pub is_left_at_password: bool,
 }
 
 /// How a recorded connection ends.
 #[derive(Clone, Copy, Debug, PartialEq, Eq)]
-pub enum Ending {
+pub enum ConnectionEnding {
     /// The client says so.
     Terminate,
     /// The client hangs up.
@@ -110,20 +111,20 @@ impl Turn {
         self.connection as usize
     }
 
-    pub fn said(&self) -> Range<usize> {
+    pub fn requests(&self) -> Range<usize> {
         self.begin as usize..self.end as usize
     }
 }
 
-impl Tape {
+impl Recording {
     /// Whether it has but one session, whose order is the client's.
     pub fn is_single(&self) -> bool {
         self.connections.len() == 1
     }
 
     /// Whether a message may be said or left out wherever it is wanted: it prepares a statement, and there may be a pool.
-    pub fn is_free(&self, said: usize) -> bool {
-        self.script.said[said].is_preparing && !self.is_single()
+    pub fn is_free(&self, request: usize) -> bool {
+        self.requests.list[request].is_preparing && !self.is_single()
     }
 
     /// The snapshot that is read on after a turn, where a transaction goes on then.
@@ -151,101 +152,107 @@ impl Tape {
     }
 
     /// The turn that a message is in.
-    pub fn turn_of(&self, said: usize) -> usize {
-        self.turns.partition_point(|it| it.said().start <= said) - 1
+    pub fn turn_of(&self, request: usize) -> usize {
+        self.turns.partition_point(|it| it.requests().start <= request) - 1
     }
 
     /// The parts of the answer to a message.
-    pub fn heard_of(&self, said: usize) -> Range<usize> {
-        let begin = |said: usize| {
-            self.script.said.get(said).map_or(self.heard.len(), |it| it.heard as usize)
+    pub fn answer_of(&self, request: usize) -> Range<usize> {
+        let begin = |request: usize| {
+            self.requests.list.get(request).map_or(self.answers.len(), |it| it.answer as usize)
         };
-        begin(said)..begin(said + 1)
+        begin(request)..begin(request + 1)
     }
 
     /// What a part of an answer waits for.
-    pub fn wait(&self, heard: usize) -> Wait {
+    pub fn wait(&self, number: usize) -> Wait {
         match self.waits.is_empty() {
             true => Wait::No,
-            false => self.waits.get(&self.heard[heard].at()).copied().unwrap_or(Wait::No),
+            false => self.waits.get(&self.answers[number].at()).copied().unwrap_or(Wait::No),
         }
     }
 
     /// When a part of an answer passed, in microseconds, where times are kept.
-    pub fn heard_at(&self, heard: usize) -> Option<u64> {
-        let at = self.heard[heard].at();
+    pub fn answered_at(&self, number: usize) -> Option<u64> {
+        let at = self.answers[number].at();
         let next = self.times.partition_point(|(record, _)| *record <= at);
         Some(self.times[next.checked_sub(1)?].1)
     }
 
     /// The bytes of a part of an answer, which are read with those after them that the server sent with it.
-    pub fn heard<'w>(&self, heard: usize, window: &'w mut Window) -> Result<&'w [u8], Changed> {
-        let piece = &self.heard[heard];
+    pub fn answer_chunk<'w>(
+        &self,
+        number: usize,
+        window: &'w mut Window,
+    ) -> Result<&'w [u8], RereadError> {
+        let chunk = &self.answers[number];
         let end = || {
-            let (mut end, mut rest) = (piece.end(), self.heard[heard + 1..].iter());
+            let (mut end, mut rest) = (chunk.end(), self.answers[number + 1..].iter());
             while let Some(next) =
-                rest.next().filter(|it| it.at() == end && it.end() <= piece.at() + WINDOW_MOST)
+                rest.next().filter(|it| it.at() == end && it.end() <= chunk.at() + WINDOW_MOST)
             {
                 end = next.end();
             }
             end
         };
-        window.piece(piece, end, &self.file)
+        window.chunk(chunk, end, &self.file)
     }
 
     /// Whether a message is the very one that was recorded, which is read with its answer where that is near.
     pub fn is_recorded(
         &self,
-        said: usize,
+        request: usize,
         message: &[u8],
         window: &mut Window,
-    ) -> Result<bool, Changed> {
-        let (mut place, mut rest) = (self.script.said[said].at, message);
+    ) -> Result<bool, RereadError> {
+        let (mut place, mut rest) = (self.requests.list[request].at, message);
         while !rest.is_empty() {
-            let Some(Spoken { piece, .. }) = self.script.spoken.get(place.piece as usize) else {
+            let Some(ClientChunk { chunk, .. }) = self.requests.chunks.get(place.chunk as usize)
+            else {
                 return Ok(false);
             };
-            let end = || self.end_of_answer(said, piece.at() + NEAR_MOST).unwrap_or(0);
-            let bytes = &window.piece(piece, end, &self.file)?[place.at as usize..];
+            let end = || self.end_of_answer(request, chunk.at() + NEAR_MOST).unwrap_or(0);
+            let bytes = &window.chunk(chunk, end, &self.file)?[place.at as usize..];
             let count = bytes.len().min(rest.len());
             if bytes[..count] != rest[..count] {
                 return Ok(false);
             }
             rest = &rest[count..];
-            place = Place { piece: place.piece + 1, at: 0 };
+            place = ChunkOffset { chunk: place.chunk + 1, at: 0 };
         }
         Ok(true)
     }
 
     /// Where what is heard of a message and of those that the client said with it ends, if that is before an offset.
-    fn end_of_answer(&self, said: usize, most: u64) -> Option<u64> {
-        let (later, record) = (&self.script.said[said..], self.script.said[said].at.piece);
-        let count = later.iter().take_while(|it| it.at.piece == record).count();
-        let heard = self.heard_of(said).start..self.heard_of(said + count - 1).end;
-        heard.last().map(|it| self.heard[it].end()).filter(|it| *it <= most)
+    fn end_of_answer(&self, request: usize, most: u64) -> Option<u64> {
+        let (later, record) =
+            (&self.requests.list[request..], self.requests.list[request].at.chunk);
+        let count = later.iter().take_while(|it| it.at.chunk == record).count();
+        let answers = self.answer_of(request).start..self.answer_of(request + count - 1).end;
+        answers.last().map(|it| self.answers[it].end()).filter(|it| *it <= most)
     }
 
     /// The recorded bytes of a message: the whole of one of up to `MESSAGE_MOST` bytes, else its head.
-    pub fn message(&self, said: usize) -> Result<Vec<u8>, Changed> {
+    pub fn message(&self, request: usize) -> Result<Vec<u8>, RereadError> {
         self.message_at(
-            self.script.said[said].at,
-            if said == 0 || self.is_startup(said) { 4 } else { HEAD },
+            self.requests.list[request].at,
+            if request == 0 || self.is_startup(request) { 4 } else { HEAD },
         )
     }
 
     /// The number of the connection of a message.
-    pub fn connection_of(&self, said: usize) -> u32 {
-        let place = self.connections.partition_point(|it| it.startup <= said);
+    pub fn connection_of(&self, request: usize) -> u32 {
+        let place = self.connections.partition_point(|it| it.startup <= request);
         self.connections[place.max(1) - 1].number
     }
 
-    pub fn is_startup(&self, said: usize) -> bool {
-        self.connections.iter().any(|it| it.startup == said)
+    pub fn is_startup(&self, request: usize) -> bool {
+        self.connections.iter().any(|it| it.startup == request)
     }
 
     /// The message at a place, whose length is in the last four bytes of its head.
-    pub fn message_at(&self, place: Place, head: usize) -> Result<Vec<u8>, Changed> {
-        let mut reader = SpokenReader::new(place);
+    pub fn message_at(&self, place: ChunkOffset, head: usize) -> Result<Vec<u8>, RereadError> {
+        let mut reader = RequestReader::new(place);
         let mut bytes = vec![0; head];
         reader.fill(self, &mut bytes)?;
         let length = bytes[head - 4..].iter().fold(0, |sum, byte| sum << 8 | usize::from(*byte));
@@ -259,12 +266,12 @@ impl Tape {
     /// Whether data begin with so many bytes of others, and go on with these; or end there, where there are none.
     pub fn begins_with(
         &self,
-        said: usize,
+        request: usize,
         other: usize,
         passed: u64,
         next: &[u8],
-    ) -> Result<bool, Changed> {
-        let What::Bytes(len) = self.script.what(said) else {
+    ) -> Result<bool, RereadError> {
+        let CompareBy::Bytes(len) = self.requests.compare_by(request) else {
             return Ok(false);
         };
         let fits = match next.is_empty() {
@@ -274,7 +281,7 @@ impl Tape {
         if !fits {
             return Ok(false);
         }
-        let (mut one, mut there) = (self.reader(said), self.reader(other));
+        let (mut one, mut there) = (self.reader(request), self.reader(other));
         let mut left = usize::try_from(passed).unwrap_or(usize::MAX);
         while left > 0 {
             let (one_bytes, other_bytes) = (one.next(self)?, there.next(self)?);
@@ -292,68 +299,74 @@ impl Tape {
     }
 
     /// The text of the statement that a recorded Bind names.
-    pub fn statement_of(&self, said: usize) -> Option<Vec<u8>> {
-        let message = self.message(said).ok()?;
+    pub fn statement_of(&self, request: usize) -> Option<Vec<u8>> {
+        let message = self.message(request).ok()?;
         let Ok(Message::Bind(bind)) = Message::read_body(Some(message[0]), message.get(HEAD..)?)
         else {
             return None;
         };
-        let begin = self.connections.iter().rev().find(|it| it.startup <= said)?.startup;
-        let before = (begin + 1..said).rev().take(LOOKED_BACK);
-        before.filter(|it| matches!(self.script.what(*it), What::Form(_))).find_map(|it| {
-            let message = self.message(it).ok()?;
-            match Message::read_body(Some(message[0]), message.get(HEAD..)?) {
-                Ok(Message::Parse(parse)) if parse.statement == bind.statement => {
-                    Some(parse.query.to_vec())
+        let begin = self.connections.iter().rev().find(|it| it.startup <= request)?.startup;
+        let before = (begin + 1..request).rev().take(LOOKED_BACK);
+        before
+            .filter(|it| matches!(self.requests.compare_by(*it), CompareBy::Fingerprint(_)))
+            .find_map(|it| {
+                let message = self.message(it).ok()?;
+                match Message::read_body(Some(message[0]), message.get(HEAD..)?) {
+                    Ok(Message::Parse(parse)) if parse.statement == bind.statement => {
+                        Some(parse.query.to_vec())
+                    }
+                    _ => None,
                 }
-                _ => None,
-            }
-        })
+            })
     }
 
     /// What knows the names that a recorded connection has before a message.
-    pub fn former_at(&self, said: usize, rules: &Arc<Rules>) -> Result<Former, Changed> {
-        let mut former = Former::new(rules.clone());
-        let place = self.connections.partition_point(|it| it.startup < said);
+    pub fn fingerprinter_at(
+        &self,
+        request: usize,
+        rules: &Arc<ReplayRules>,
+    ) -> Result<Fingerprinter, RereadError> {
+        let mut fingerprinter = Fingerprinter::new(rules.clone());
+        let place = self.connections.partition_point(|it| it.startup < request);
         let turns = place.checked_sub(1).map_or(0..0, |it| self.connections[it].turns.clone());
-        for number in turns.take_while(|it| self.turns[*it].said().start < said) {
+        for number in turns.take_while(|it| self.turns[*it].requests().start < request) {
             let turn = &self.turns[number];
-            for before in turn.said().take_while(|it| *it < said) {
-                if let What::Form(form) = self.script.what(before) {
+            for before in turn.requests().take_while(|it| *it < request) {
+                if let CompareBy::Fingerprint(fingerprint) = self.requests.compare_by(before) {
                     let message = self.message(before)?;
-                    former.message(Some(message[0]), &message[HEAD..]);
-                    former.settle(form);
+                    fingerprinter.message(Some(message[0]), &message[HEAD..]);
+                    fingerprinter.settle(fingerprint);
                 }
             }
             let is_over = turn.is_whole && self.snapshot_after(number).is_none();
-            if is_over && turn.said().end <= said {
-                former.end_transaction();
+            if is_over && turn.requests().end <= request {
+                fingerprinter.end_transaction();
             }
         }
-        Ok(former)
+        Ok(fingerprinter)
     }
 
-    /// Where the recorded client rolled back by a message of a form, of some that it said one after the other, to a savepoint
-    /// of the place that it had before them, if one is named: as long as that savepoint was there.
+    /// Where the recorded client rolled back by a message with a fingerprint, of some that it said one after the other, to a
+    /// savepoint of the place that it had before them, if one is named: as long as that savepoint was there.
     pub fn undone(
         &self,
         ahead: Range<usize>,
-        form: u32,
+        fingerprint: u32,
         savepoint: Option<usize>,
-        rules: &Arc<Rules>,
-    ) -> Result<Option<usize>, Changed> {
-        let mut former = self.former_at(ahead.start, rules)?;
-        for said in ahead {
-            let What::Form(recorded) = self.script.what(said) else {
+        rules: &Arc<ReplayRules>,
+    ) -> Result<Option<usize>, RereadError> {
+        let mut fingerprinter = self.fingerprinter_at(ahead.start, rules)?;
+        for request in ahead {
+            let CompareBy::Fingerprint(recorded) = self.requests.compare_by(request) else {
                 continue;
             };
-            if recorded == form {
-                return Ok(Some(said));
+            if recorded == fingerprint {
+                return Ok(Some(request));
             }
-            let message = self.message(said)?;
-            former.message(Some(message[0]), &message[HEAD..]);
-            former.settle(recorded);
-            if savepoint.map_or(false, |it| it >= former.savepoints()) {
+            let message = self.message(request)?;
+            fingerprinter.message(Some(message[0]), &message[HEAD..]);
+            fingerprinter.settle(recorded);
+            if savepoint.map_or(false, |it| it >= fingerprinter.savepoints()) {
                 break;
             }
         }
@@ -361,16 +374,16 @@ impl Tape {
     }
 
     /// Reads what a client said from a message on.
-    pub fn reader(&self, said: usize) -> SpokenReader {
-        SpokenReader::new(self.script.said[said].at)
+    pub fn reader(&self, request: usize) -> RequestReader {
+        RequestReader::new(self.requests.list[request].at)
     }
 
     /// The length and the checksum of what was heard of a message. Two that are the same in these are taken for the same.
-    pub fn sum_of(&self, said: usize) -> u64 {
+    pub fn sum_of(&self, request: usize) -> u64 {
         let (mut sum, mut length) = (Hasher::new(), 0);
-        for piece in &self.heard[self.heard_of(said)] {
-            sum.combine(&piece.sum());
-            length += piece.len() as u64;
+        for chunk in &self.answers[self.answer_of(request)] {
+            sum.combine(&chunk.sum());
+            length += chunk.len() as u64;
         }
         length << 32 | u64::from(sum.finalize())
     }
@@ -382,20 +395,21 @@ impl Tape {
     }
 
     /// Whether the same was heard of two messages.
-    pub fn is_same_answer(&self, one: usize, other: usize) -> Result<bool, Changed> {
-        let (one, other) = (self.heard_of(one), self.heard_of(other));
-        let len =
-            |range: &Range<usize>| self.heard[range.clone()].iter().map(Piece::len).sum::<usize>();
+    pub fn is_same_answer(&self, one: usize, other: usize) -> Result<bool, RereadError> {
+        let (one, other) = (self.answer_of(one), self.answer_of(other));
+        let len = |range: &Range<usize>| {
+            self.answers[range.clone()].iter().map(Chunk::len).sum::<usize>()
+        };
         if len(&one) != len(&other) {
             return Ok(false);
         }
         Ok(one == other || self.answer(one)? == self.answer(other)?)
     }
 
-    fn answer(&self, range: Range<usize>) -> Result<Vec<u8>, Changed> {
+    fn answer(&self, range: Range<usize>) -> Result<Vec<u8>, RereadError> {
         let (mut all, mut window) = (Vec::new(), Window::default());
         for number in range {
-            all.extend_from_slice(self.heard(number, &mut window)?);
+            all.extend_from_slice(self.answer_chunk(number, &mut window)?);
         }
         Ok(all)
     }

@@ -1,35 +1,36 @@
 //! Reading what clients said, which goes on from record to record.
 
-use super::requests::{Place, Spoken};
-use super::{Changed, Tape, Window};
+use super::requests::{ChunkOffset, ClientChunk};
+use super::{Recording, RereadError, Window};
 
 /// Reads what a client said on from a place.
-pub struct SpokenReader {
-    place: Place,
+pub struct RequestReader {
+    place: ChunkOffset,
     window: Window,
 }
 
-impl SpokenReader {
-    pub fn new(place: Place) -> SpokenReader {
-        SpokenReader { place, window: Window::default() }
+impl RequestReader {
+    pub fn new(place: ChunkOffset) -> RequestReader {
+        RequestReader { place, window: Window::default() }
     }
 
-    pub fn place(&self) -> Place {
+    pub fn place(&self) -> ChunkOffset {
         self.place
     }
 
     /// The next bytes, as many as there are in a record. There are none at the end of the recording.
-    pub fn next<'a>(&'a mut self, tape: &Tape) -> Result<&'a [u8], Changed> {
+    pub fn next<'a>(&'a mut self, recording: &Recording) -> Result<&'a [u8], RereadError> {
         loop {
-            let Some(Spoken { piece, .. }) = tape.script.spoken.get(self.place.piece as usize)
+            let Some(ClientChunk { chunk, .. }) =
+                recording.requests.chunks.get(self.place.chunk as usize)
             else {
                 return Ok(&[]);
             };
-            if (self.place.at as usize) < piece.len() {
-                let bytes = self.window.piece(piece, || piece.end(), &tape.file)?;
+            if (self.place.at as usize) < chunk.len() {
+                let bytes = self.window.chunk(chunk, || chunk.end(), &recording.file)?;
                 return Ok(&bytes[self.place.at as usize..]);
             }
-            self.place = Place { piece: self.place.piece + 1, at: 0 };
+            self.place = ChunkOffset { chunk: self.place.chunk + 1, at: 0 };
         }
     }
 
@@ -38,9 +39,13 @@ impl SpokenReader {
         self.place.at += count as u32;
     }
 
-    pub(super) fn fill(&mut self, tape: &Tape, mut bytes: &mut [u8]) -> Result<(), Changed> {
+    pub(super) fn fill(
+        &mut self,
+        recording: &Recording,
+        mut bytes: &mut [u8],
+    ) -> Result<(), RereadError> {
         while !bytes.is_empty() {
-            let next = self.next(tape)?;
+            let next = self.next(recording)?;
             let count = next.len().min(bytes.len());
             if count == 0 {
                 return Ok(());

@@ -11,31 +11,31 @@
 //! So the answers of a turn are the same on any of these connections that is between two turns, but for what shows the time or
 //! the connection itself. Prepared statements don't matter to that: what takes one is compared by its text.
 
-use super::connection_builder::{Building, End};
-use super::requests::{Script, What};
-use crate::fingerprint::{deeds, imported, is_read_only, Deed};
+use super::connection_builder::{ConnectionBuilder, ExchangeEnd};
+use super::requests::{CompareBy, Requests};
+use crate::fingerprint::{imported, is_read_only, statement_effects, StatementEffect};
 use pgmsg::frontend::{Message, Target};
 use std::collections::{HashMap, HashSet};
 
 /// Reads the transactions of a connection.
 #[derive(Default)]
-pub struct Sharing {
+pub struct SnapshotTracker {
     is_read_only: bool,
     /// The snapshot that the exchange at hand imports.
     imported: Option<Vec<u8>>,
-    open: Option<Reading>,
-    over: Vec<Reading>,
+    open: Option<SnapshotTransaction>,
+    over: Vec<SnapshotTransaction>,
 }
 
 /// A transaction that reads a snapshot.
-struct Reading {
+struct SnapshotTransaction {
     snapshot: Vec<u8>,
     /// The last message of the exchange that imported it.
     import: u32,
-    exchanges: Vec<Exchange>,
+    exchanges: Vec<SnapshotExchange>,
     /// The first message of which the exchange at hand takes something, of those that made it.
     needs: u32,
-    made: HashMap<Thing, u32>,
+    made: HashMap<Resource, u32>,
     /// Statements that were prepared since, which only read.
     statements: HashSet<Vec<u8>>,
     /// Something may have been left that isn't among these.
@@ -44,7 +44,7 @@ struct Reading {
 
 /// What one message makes and another takes.
 #[derive(PartialEq, Eq, Hash)]
-enum Thing {
+enum Resource {
     /// A portal, which a cursor is.
     Portal(Vec<u8>),
     Savepoints,
@@ -53,7 +53,7 @@ enum Thing {
 }
 
 /// An exchange after the import.
-struct Exchange {
+struct SnapshotExchange {
     end: u32,
     needs: u32,
     /// Another one can follow that takes nothing: the transaction goes on, and has neither failed nor left anything.
@@ -63,11 +63,11 @@ struct Exchange {
 /// Nothing is taken.
 const NOTHING: u32 = u32::MAX;
 
-impl Sharing {
+impl SnapshotTracker {
     /// Takes a message by its number in the connection.
-    pub fn say(&mut self, said: u32, tag: Option<u8>, body: &[u8]) {
-        if let Some(reading) = &mut self.open {
-            return reading.say(said, tag, body);
+    pub fn say(&mut self, request: u32, tag: Option<u8>, body: &[u8]) {
+        if let Some(transaction) = &mut self.open {
+            return transaction.say(request, tag, body);
         }
         if let Some(text) = text_of(tag, body) {
             self.is_read_only = is_read_only(text).unwrap_or(self.is_read_only);
@@ -78,11 +78,13 @@ impl Sharing {
     }
 
     /// Ends an exchange.
-    pub fn end(&mut self, end: End) {
+    pub fn end(&mut self, end: ExchangeEnd) {
         let imported = self.imported.take().filter(|_| self.is_read_only && end.status == b'T');
         match (&mut self.open, imported) {
-            (Some(reading), _) => reading.end(end),
-            (None, Some(snapshot)) => self.open = Some(Reading::new(snapshot, end.said)),
+            (Some(transaction), _) => transaction.end(end),
+            (None, Some(snapshot)) => {
+                self.open = Some(SnapshotTransaction::new(snapshot, end.request))
+            }
             (None, None) => {}
         }
         if end.status == b'I' {
@@ -97,9 +99,9 @@ impl Sharing {
     }
 }
 
-impl Reading {
-    fn new(snapshot: Vec<u8>, import: u32) -> Reading {
-        Reading {
+impl SnapshotTransaction {
+    fn new(snapshot: Vec<u8>, import: u32) -> SnapshotTransaction {
+        SnapshotTransaction {
             snapshot,
             import,
             exchanges: Vec::new(),
@@ -110,50 +112,52 @@ impl Reading {
         }
     }
 
-    fn say(&mut self, said: u32, tag: Option<u8>, body: &[u8]) {
+    fn say(&mut self, request: u32, tag: Option<u8>, body: &[u8]) {
         match Message::read_body(tag, body) {
-            Ok(Message::Query(text)) => self.run(said, &text),
+            Ok(Message::Query(text)) => self.run(request, &text),
             Ok(Message::Parse(parse)) => {
-                self.run(said, &parse.query);
+                self.run(request, &parse.query);
                 self.statements.insert(parse.statement.to_vec());
             }
             Ok(Message::Bind(bind)) => {
                 self.take_statement(&bind.statement);
-                self.made.insert(Thing::Portal(bind.portal.to_vec()), said);
+                self.made.insert(Resource::Portal(bind.portal.to_vec()), request);
             }
-            Ok(Message::Execute(execute)) => self.take(Thing::Portal(execute.portal.to_vec())),
+            Ok(Message::Execute(execute)) => self.take(Resource::Portal(execute.portal.to_vec())),
             Ok(Message::Describe(Target::Portal(name)) | Message::Close(Target::Portal(name))) => {
-                self.take(Thing::Portal(name.to_vec()))
+                self.take(Resource::Portal(name.to_vec()))
             }
-            Ok(Message::FunctionCall(_)) => self.make_or_take(Thing::Calls, said),
+            Ok(Message::FunctionCall(_)) => self.make_or_take(Resource::Calls, request),
             Ok(Message::Describe(_) | Message::Close(_) | Message::Sync) => {}
             _ => self.has_left = true,
         }
     }
 
-    fn run(&mut self, said: u32, text: &[u8]) {
-        for deed in deeds(text) {
-            match deed {
-                Deed::Reads => {}
-                Deed::MakesCursor(name) => drop(self.made.insert(Thing::Portal(name), said)),
-                Deed::TakesCursor(name) if name == b"all" => self.needs = self.import,
-                Deed::TakesCursor(name) => self.take(Thing::Portal(name)),
-                Deed::MakesStatement(name) => drop(self.statements.insert(name)),
-                Deed::TakesStatement(name) => self.take_statement(&name),
-                Deed::Savepoint => self.make_or_take(Thing::Savepoints, said),
-                Deed::Leaves => self.has_left = true,
+    fn run(&mut self, request: u32, text: &[u8]) {
+        for effect in statement_effects(text) {
+            match effect {
+                StatementEffect::Reads => {}
+                StatementEffect::MakesCursor(name) => {
+                    self.made.insert(Resource::Portal(name), request);
+                }
+                StatementEffect::TakesCursor(name) if name == b"all" => self.needs = self.import,
+                StatementEffect::TakesCursor(name) => self.take(Resource::Portal(name)),
+                StatementEffect::MakesStatement(name) => drop(self.statements.insert(name)),
+                StatementEffect::TakesStatement(name) => self.take_statement(&name),
+                StatementEffect::Savepoint => self.make_or_take(Resource::Savepoints, request),
+                StatementEffect::Leaves => self.has_left = true,
             }
         }
     }
 
     /// Takes what was made by a message. What none is known to have made was there at the import.
-    fn take(&mut self, thing: Thing) {
+    fn take(&mut self, thing: Resource) {
         self.needs = self.needs.min(self.made.get(&thing).copied().unwrap_or(self.import));
     }
 
     /// Takes what the first message makes that names it.
-    fn make_or_take(&mut self, thing: Thing, said: u32) {
-        let made = *self.made.entry(thing).or_insert(said);
+    fn make_or_take(&mut self, thing: Resource, request: u32) {
+        let made = *self.made.entry(thing).or_insert(request);
         self.needs = self.needs.min(made);
     }
 
@@ -162,9 +166,9 @@ impl Reading {
         self.has_left |= !self.statements.contains(name);
     }
 
-    fn end(&mut self, end: End) {
-        self.exchanges.push(Exchange {
-            end: end.said,
+    fn end(&mut self, end: ExchangeEnd) {
+        self.exchanges.push(SnapshotExchange {
+            end: end.request,
             needs: std::mem::replace(&mut self.needs, NOTHING),
             is_clean: end.status == b'T' && !self.has_left,
         });
@@ -185,36 +189,36 @@ impl Reading {
     }
 
     /// Whether two connections said the same up to their imports, and nothing since that is compared as bytes.
-    fn is_like(&self, script: &Script, other: &Reading, others: &Script) -> bool {
+    fn is_like(&self, requests: &Requests, other: &SnapshotTransaction, others: &Requests) -> bool {
         let last = self.exchanges.last().map_or(self.import, |it| it.end);
-        let what = |it: u32| script.what(it as usize);
+        let compare_by = |it: u32| requests.compare_by(it as usize);
         self.import == other.import
-            && (0..=last).all(|it| matches!(what(it), What::Form(_)))
-            && (0..=self.import).all(|it| what(it) == others.what(it as usize))
+            && (0..=last).all(|it| matches!(compare_by(it), CompareBy::Fingerprint(_)))
+            && (0..=self.import).all(|it| compare_by(it) == others.compare_by(it as usize))
     }
 }
 
 /// Has turns end within the transactions that read a snapshot which others read, too. Where the connections that import one
 /// didn't all say the same before, its transactions stay whole: those that begin alike can be taken for each other still.
-pub fn share(mut buildings: Vec<&mut Building>) {
-    let mut all: HashMap<Vec<u8>, Vec<(usize, Reading)>> = HashMap::new();
-    for (number, building) in buildings.iter_mut().enumerate() {
-        for reading in std::mem::take(&mut building.sharing.over) {
-            all.entry(reading.snapshot.clone()).or_default().push((number, reading));
+pub fn share(mut builders: Vec<&mut ConnectionBuilder>) {
+    let mut all: HashMap<Vec<u8>, Vec<(usize, SnapshotTransaction)>> = HashMap::new();
+    for (number, builder) in builders.iter_mut().enumerate() {
+        for transaction in std::mem::take(&mut builder.tracker.over) {
+            all.entry(transaction.snapshot.clone()).or_default().push((number, transaction));
         }
     }
-    let script = |number: usize| &buildings[number].script;
-    all.retain(|_, readings| {
-        let (first, one) = &readings[0];
-        readings.len() > 1
-            && readings
+    let requests = |number: usize| &builders[number].requests;
+    all.retain(|_, transactions| {
+        let (first, one) = &transactions[0];
+        transactions.len() > 1
+            && transactions
                 .iter()
-                .all(|(it, reading)| reading.is_like(script(*it), one, script(*first)))
+                .all(|(it, transaction)| transaction.is_like(requests(*it), one, requests(*first)))
     });
-    for (snapshot, readings) in all.into_values().enumerate() {
-        for (number, reading) in readings {
-            let ends = reading.ends().into_iter().map(|end| (end, snapshot as u32));
-            buildings[number].snapshots.extend(ends);
+    for (snapshot, transactions) in all.into_values().enumerate() {
+        for (number, transaction) in transactions {
+            let ends = transaction.ends().into_iter().map(|end| (end, snapshot as u32));
+            builders[number].snapshots.extend(ends);
         }
     }
 }
@@ -236,18 +240,18 @@ mod tests {
     /// Where turns end in a transaction in which these exchanges follow its import, the first of which has the number 3. Each
     /// is a text, before which the letter stands in which its ReadyForQuery ends, or a FunctionCall where it is empty.
     fn ends(exchanges: &[&str]) -> Vec<u32> {
-        let mut sharing = Sharing::default();
+        let mut tracker = SnapshotTracker::default();
         let begin = ["TBEGIN READ ONLY", "TSET TRANSACTION SNAPSHOT '1'"];
-        for (text, said) in begin.iter().chain(exchanges).zip(1..) {
+        for (text, request) in begin.iter().chain(exchanges).zip(1..) {
             let (status, text) = text.split_at(1);
             match text {
-                "" => sharing.say(said, Some(b'F'), b"\0\0\x03\xb8\0\0\0\0\0\x01"),
-                text => sharing.say(said, Some(b'Q'), format!("{text}\0").as_bytes()),
+                "" => tracker.say(request, Some(b'F'), b"\0\0\x03\xb8\0\0\0\0\0\x01"),
+                text => tracker.say(request, Some(b'Q'), format!("{text}\0").as_bytes()),
             }
-            sharing.end(End { said, status: status.as_bytes()[0] });
+            tracker.end(ExchangeEnd { request, status: status.as_bytes()[0] });
         }
-        sharing.close();
-        let mut ends = sharing.over.first().map(Reading::ends).unwrap_or_default();
+        tracker.close();
+        let mut ends = tracker.over.first().map(SnapshotTransaction::ends).unwrap_or_default();
         ends.sort_unstable();
         ends
     }
@@ -281,12 +285,12 @@ mod tests {
     #[test]
     fn only_an_import_of_what_only_reads_counts() {
         let is_reading = |texts: &[(&str, u8)]| {
-            let mut sharing = Sharing::default();
-            for ((text, status), said) in texts.iter().zip(1..) {
-                sharing.say(said, Some(b'Q'), format!("{text}\0").as_bytes());
-                sharing.end(End { said, status: *status });
+            let mut tracker = SnapshotTracker::default();
+            for ((text, status), request) in texts.iter().zip(1..) {
+                tracker.say(request, Some(b'Q'), format!("{text}\0").as_bytes());
+                tracker.end(ExchangeEnd { request, status: *status });
             }
-            sharing.open.is_some()
+            tracker.open.is_some()
         };
         let import = "SET TRANSACTION SNAPSHOT '1'";
         assert!(is_reading(&[("BEGIN READ ONLY", b'T'), (import, b'T')]));

@@ -1,7 +1,7 @@
 //! Which rules are advised: none by which two recorded requests with different answers would be one.
 
-use crate::recorded::{load, Tape, What};
-use crate::rules::Rules;
+use crate::recorded::{load, CompareBy, Recording};
+use crate::rules::ReplayRules;
 use anyhow::{ensure, Result};
 use std::collections::HashMap;
 use std::fs;
@@ -14,19 +14,19 @@ const RULES_MOST: usize = 100;
 const SHOWN: usize = 4096;
 
 /// Looks at rules before they are advised.
-pub struct Adviser {
-    tape: Arc<Tape>,
-    rules: Arc<Rules>,
+pub struct RuleAdviser {
+    recording: Arc<Recording>,
+    rules: Arc<ReplayRules>,
     /// What was said of each rule.
     said: Mutex<HashMap<String, String>>,
 }
 
 /// Two recorded messages.
-type Pair = (usize, usize);
+type RequestPair = (usize, usize);
 
-impl Adviser {
-    pub fn new(tape: Arc<Tape>, rules: Arc<Rules>) -> Adviser {
-        Adviser { tape, rules, said: Mutex::default() }
+impl RuleAdviser {
+    pub fn new(recording: Arc<Recording>, rules: Arc<ReplayRules>) -> RuleAdviser {
+        RuleAdviser { recording, rules, said: Mutex::default() }
     }
 
     /// What is said of a rule, in lines: the rule itself, or why it isn't advised.
@@ -50,34 +50,37 @@ impl Adviser {
         words
     }
 
-    fn of_pair(&self, (one, other): Pair) -> String {
+    fn of_pair(&self, (one, other): RequestPair) -> String {
         let place = |it: usize| {
-            let number = self.tape.script.number(it);
-            format!("message {number} of connection {}", self.tape.connection_of(it))
+            let number = self.recording.requests.number(it);
+            format!("message {number} of connection {}", self.recording.connection_of(it))
         };
         let (one, other) = (place(one), place(other));
         format!("by it {one} and {other} would be the same, whose answers differ")
     }
 
     /// Two messages that are the same by a rule, and not without it, with different answers.
-    fn joined(&self, rule: &str) -> Result<Option<Pair>> {
-        let length = fs::metadata(&self.tape.path)?.len();
+    fn joined(&self, rule: &str) -> Result<Option<RequestPair>> {
+        let length = fs::metadata(&self.recording.path)?.len();
         ensure!(length <= BYTES_MOST, "the recording is too long to be read for it once more");
         let rules = Arc::new(self.rules.and(rule)?);
-        let read = load(&self.tape.path, &rules, false, &|_| ())?;
-        ensure!(read.script.len() == self.tape.script.len(), "the recording was changed");
-        let mut groups: HashMap<u32, Group> = HashMap::new();
-        for said in 0..read.script.len() {
-            let (What::Form(before), What::Form(form)) =
-                (self.tape.script.what(said), read.script.what(said))
+        let read = load(&self.recording.path, &rules, false, &|_| ())?;
+        ensure!(read.requests.len() == self.recording.requests.len(), "the recording was changed");
+        let mut groups: HashMap<u32, MergedRequests> = HashMap::new();
+        for said in 0..read.requests.len() {
+            let (CompareBy::Fingerprint(before), CompareBy::Fingerprint(fingerprint)) =
+                (self.recording.requests.compare_by(said), read.requests.compare_by(said))
             else {
                 continue;
             };
             // Each login has another key, and what follows it may be another session.
-            let is_startup = self.tape.is_startup(said);
-            let sum = if is_startup { before.into() } else { self.tape.sum_of(said) };
-            let message = Said { said, form: before, sum };
-            let pair = groups.entry(form).or_insert_with(|| Group::new(message)).add(message);
+            let is_startup = self.recording.is_startup(said);
+            let sum = if is_startup { before.into() } else { self.recording.sum_of(said) };
+            let message = AnsweredRequest { said, fingerprint: before, sum };
+            let pair = groups
+                .entry(fingerprint)
+                .or_insert_with(|| MergedRequests::new(message))
+                .add(message);
             if pair.is_some() {
                 return Ok(pair);
             }
@@ -86,30 +89,31 @@ impl Adviser {
     }
 }
 
-/// A message, its form without the rule, and its answer.
+/// A message, its fingerprint without the rule, and its answer.
 #[derive(Clone, Copy)]
-struct Said {
+struct AnsweredRequest {
     said: usize,
-    form: u32,
+    fingerprint: u32,
     sum: u64,
 }
 
 /// Messages that are the same by a rule.
-struct Group {
-    first: Said,
+struct MergedRequests {
+    first: AnsweredRequest,
     /// One that is another without the rule and has the answer of the first, and one that is the same and has another.
-    other: Option<Said>,
-    apart: Option<Said>,
+    other: Option<AnsweredRequest>,
+    apart: Option<AnsweredRequest>,
 }
 
-impl Group {
-    fn new(first: Said) -> Group {
-        Group { first, other: None, apart: None }
+impl MergedRequests {
+    fn new(first: AnsweredRequest) -> MergedRequests {
+        MergedRequests { first, other: None, apart: None }
     }
 
     /// Adds a message, and gives two that are others without the rule, and have different answers.
-    fn add(&mut self, it: Said) -> Option<Pair> {
-        let (is_same, is_alike) = (it.form == self.first.form, it.sum == self.first.sum);
+    fn add(&mut self, it: AnsweredRequest) -> Option<RequestPair> {
+        let (is_same, is_alike) =
+            (it.fingerprint == self.first.fingerprint, it.sum == self.first.sum);
         match (is_same, is_alike) {
             (false, false) => return Some((self.first.said, it.said)),
             (false, true) => self.other = self.other.or(Some(it)),
@@ -125,15 +129,15 @@ impl Group {
 mod tests {
     use super::*;
 
-    /// The pair that messages with these forms and answers have.
-    fn pair(messages: &[(u32, u64)]) -> Option<Pair> {
-        let said = messages.iter().enumerate().map(|(said, (form, sum))| Said {
+    /// The pair that messages with these fingerprints and answers have.
+    fn pair(messages: &[(u32, u64)]) -> Option<RequestPair> {
+        let said = messages.iter().enumerate().map(|(said, (fingerprint, sum))| AnsweredRequest {
             said,
-            form: *form,
+            fingerprint: *fingerprint,
             sum: *sum,
         });
         let said: Vec<_> = said.collect();
-        let mut group = Group::new(said[0]);
+        let mut group = MergedRequests::new(said[0]);
         said.iter().find_map(|it| group.add(*it))
     }
 

@@ -1,6 +1,6 @@
 //! The parts of two messages that differ, as git shows words that do.
 
-use super::{Allowed, Side};
+use super::{AllowedDifferences, ReportedMessage};
 use crate::recorded::HEAD;
 use lines::escape as escaped;
 use once_cell::sync::OnceCell;
@@ -14,18 +14,22 @@ const SHOWN: usize = 1000;
 const PARTS_MOST: usize = 40;
 
 /// Parts of a message with their names.
-pub type Parts = Vec<(String, Vec<u8>)>;
+pub type MessageParts = Vec<(String, Vec<u8>)>;
 
 /// The same by their names.
-pub type ByName<'p> = HashMap<&'p str, &'p [u8]>;
+pub type PartsByName<'p> = HashMap<&'p str, &'p [u8]>;
 
 /// Finds parts by their names, of two with one name the first.
-pub fn by_name(parts: &Parts) -> ByName<'_> {
+pub fn by_name(parts: &MessageParts) -> PartsByName<'_> {
     parts.iter().rev().map(|(name, text)| (&name[..], &text[..])).collect()
 }
 
 /// A line for each part that differs.
-pub fn lines(allowed: &Allowed<'_>, recorded: &Side, received: &Side) -> String {
+pub fn lines(
+    allowed: &AllowedDifferences<'_>,
+    recorded: &ReportedMessage,
+    received: &ReportedMessage,
+) -> String {
     let (Some(one), Some(other)) = (compared(allowed, recorded), compared(allowed, received))
     else {
         return String::new();
@@ -87,26 +91,28 @@ fn words(one: &str, other: &str) -> String {
 }
 
 /// The parts of a side that is a message, but for those that may differ.
-pub fn compared(allowed: &Allowed<'_>, side: &Side) -> Option<Parts> {
+pub fn compared(allowed: &AllowedDifferences<'_>, side: &ReportedMessage) -> Option<MessageParts> {
     let mut all = parts(side)?;
     let position = |name: &str| name.strip_prefix("parameter ").and_then(|it| it.parse().ok());
     let is_any_value = allowed.any_value();
     match side {
-        Side::Startup(_) => all.retain(|(name, _)| !allowed.rules.is_any_setting(name.as_bytes())),
+        ReportedMessage::Startup(_) => {
+            all.retain(|(name, _)| !allowed.rules.is_any_setting(name.as_bytes()))
+        }
         _ => all.retain(|(name, _)| !position(name).map_or(false, &is_any_value)),
     }
     Some(all)
 }
 
-fn parts(side: &Side) -> Option<Parts> {
+fn parts(side: &ReportedMessage) -> Option<MessageParts> {
     match side {
-        Side::Startup(bytes) => match Message::read_body(None, &bytes[4..]) {
+        ReportedMessage::Startup(bytes) => match Message::read_body(None, &bytes[4..]) {
             Ok(Message::Startup(it)) => Some(
                 it.settings.iter().map(|it| part(&it.name.to_str_lossy(), &it.value)).collect(),
             ),
             _ => None,
         },
-        Side::Message(bytes) => {
+        ReportedMessage::Message(bytes) => {
             let Ok(message) = Message::read_body(Some(bytes[0]), &bytes[HEAD..]) else {
                 let kind = format!("{:?} that can't be read", char::from(bytes[0]));
                 return Some(vec![part("kind", kind.as_bytes())]);
@@ -123,7 +129,7 @@ fn part(name: &str, text: &[u8]) -> (String, Vec<u8>) {
     (name.to_owned(), text.to_vec())
 }
 
-fn of_message(message: &Message<'_>) -> Parts {
+fn of_message(message: &Message<'_>) -> MessageParts {
     match message {
         Message::Query(query) => vec![part("query", query)],
         Message::Parse(parse) => {

@@ -1,12 +1,12 @@
 //! Where two messages of a client part.
 
-use super::{Allowed, Side};
+use super::{AllowedDifferences, ReportedMessage};
 use crate::recorded::HEAD;
 use pgmsg::frontend::{Bind, Execute, Message, Parse, Settings, Startup, Target};
 
 /// A part of a message, and its place in the recorded and in the received one, from the tag on.
 #[derive(Clone, Copy, Debug, PartialEq, Eq)]
-pub struct Parting {
+pub struct Difference {
     part: &'static str,
     position: usize,
     recorded: usize,
@@ -15,13 +15,13 @@ pub struct Parting {
 
 const EXCERPT: usize = 23;
 
-impl Parting {
+impl Difference {
     /// In a part at a place that both have.
-    pub fn at(part: &'static str, place: usize) -> Parting {
-        Parting { part, position: 0, recorded: place, received: place }
+    pub fn at(part: &'static str, place: usize) -> Difference {
+        Difference { part, position: 0, recorded: place, received: place }
     }
 
-    pub fn words(&self, recorded: &Side, received: &Side) -> String {
+    pub fn words(&self, recorded: &ReportedMessage, received: &ReportedMessage) -> String {
         let position =
             if self.position > 0 { format!(" {}", self.position) } else { String::new() };
         let mut words = format!("they part in {}{position}, at byte {}", self.part, self.recorded);
@@ -40,10 +40,10 @@ impl Parting {
 }
 
 /// The next bytes of a message from a place on, as far as they are of ASCII and are printed.
-fn excerpt(side: &Side, at: usize) -> String {
+fn excerpt(side: &ReportedMessage, at: usize) -> String {
     let (bytes, head) = match side {
-        Side::Message(bytes) => (bytes, HEAD),
-        Side::Startup(bytes) => (bytes, 4),
+        ReportedMessage::Message(bytes) => (bytes, HEAD),
+        ReportedMessage::Startup(bytes) => (bytes, 4),
         _ => return String::new(),
     };
     let rest = if at < head { &[] } else { bytes.get(at..).unwrap_or_default() };
@@ -52,38 +52,42 @@ fn excerpt(side: &Side, at: usize) -> String {
 }
 
 /// Where two sides part that are messages.
-pub fn parting(allowed: &Allowed<'_>, recorded: &Side, received: &Side) -> Option<Parting> {
+pub fn difference(
+    allowed: &AllowedDifferences<'_>,
+    recorded: &ReportedMessage,
+    received: &ReportedMessage,
+) -> Option<Difference> {
     match (recorded, received) {
-        (Side::Startup(one), Side::Startup(other)) => {
-            Some(Bodies::new(allowed, None, one, other).parting())
+        (ReportedMessage::Startup(one), ReportedMessage::Startup(other)) => {
+            Some(BodyComparison::new(allowed, None, one, other).difference())
         }
-        (Side::Words(_), _) | (_, Side::Words(_)) => None,
+        (ReportedMessage::Words(_), _) | (_, ReportedMessage::Words(_)) => None,
         _ => {
             let (one, other) = (tag_of(recorded)?, tag_of(received)?);
             if one != other {
-                return Some(Parting::at("the kind", 0));
+                return Some(Difference::at("the kind", 0));
             }
             match (recorded, received) {
-                (Side::Message(a), Side::Message(b)) => {
-                    Some(Bodies::new(allowed, Some(one), a, b).parting())
+                (ReportedMessage::Message(a), ReportedMessage::Message(b)) => {
+                    Some(BodyComparison::new(allowed, Some(one), a, b).difference())
                 }
-                _ => Some(Parting::at("the length", 1)),
+                _ => Some(Difference::at("the length", 1)),
             }
         }
     }
 }
 
-fn tag_of(side: &Side) -> Option<u8> {
+fn tag_of(side: &ReportedMessage) -> Option<u8> {
     match side {
-        Side::Message(bytes) => bytes.first().copied(),
-        Side::Long { tag, .. } => Some(*tag),
+        ReportedMessage::Message(bytes) => bytes.first().copied(),
+        ReportedMessage::Long { tag, .. } => Some(*tag),
         _ => None,
     }
 }
 
 /// The bodies of two messages of a kind, after heads of a length.
-struct Bodies<'a> {
-    allowed: &'a Allowed<'a>,
+struct BodyComparison<'a> {
+    allowed: &'a AllowedDifferences<'a>,
     tag: Option<u8>,
     head: usize,
     one: &'a [u8],
@@ -100,29 +104,29 @@ fn same(one: &[u8], other: &[u8]) -> usize {
     one.iter().zip(other).take_while(|(one, other)| one == other).count()
 }
 
-impl<'a> Bodies<'a> {
+impl<'a> BodyComparison<'a> {
     fn new(
-        allowed: &'a Allowed<'a>,
+        allowed: &'a AllowedDifferences<'a>,
         tag: Option<u8>,
         one: &'a [u8],
         other: &'a [u8],
-    ) -> Bodies<'a> {
+    ) -> BodyComparison<'a> {
         let head = if tag.is_some() { HEAD } else { 4 };
-        Bodies { allowed, tag, head, one: &one[head..], other: &other[head..] }
+        BodyComparison { allowed, tag, head, one: &one[head..], other: &other[head..] }
     }
 
-    fn part(&self, part: &'static str, position: usize, one: usize, other: usize) -> Parting {
-        Parting { part, position, recorded: self.head + one, received: self.head + other }
+    fn part(&self, part: &'static str, position: usize, one: usize, other: usize) -> Difference {
+        Difference { part, position, recorded: self.head + one, received: self.head + other }
     }
 
     /// Where two parts differ, if they do.
-    fn differ(&self, part: &'static str, one: &[u8], other: &[u8]) -> Option<Parting> {
+    fn differ(&self, part: &'static str, one: &[u8], other: &[u8]) -> Option<Difference> {
         let shared = same(one, other);
         let at = |body, text| place(body, text) + shared;
         (one != other).then(|| self.part(part, 0, at(self.one, one), at(self.other, other)))
     }
 
-    fn whole(&self) -> Parting {
+    fn whole(&self) -> Difference {
         let part = match self.tag {
             Some(b'Q') => "the query",
             Some(b'd') => "the data",
@@ -133,7 +137,7 @@ impl<'a> Bodies<'a> {
         self.part(part, 0, at, at)
     }
 
-    fn parting(&self) -> Parting {
+    fn difference(&self) -> Difference {
         let read =
             (Message::read_body(self.tag, self.one), Message::read_body(self.tag, self.other));
         let found = match &read {
@@ -154,11 +158,11 @@ impl<'a> Bodies<'a> {
         found.unwrap_or_else(|| self.whole())
     }
 
-    fn names(&self, part: &'static str, one: &[u8], other: &[u8]) -> Parting {
+    fn names(&self, part: &'static str, one: &[u8], other: &[u8]) -> Difference {
         self.part(part, 0, place(self.one, one), place(self.other, other))
     }
 
-    fn of_parses(&self, one: &Parse<'_>, other: &Parse<'_>) -> Parting {
+    fn of_parses(&self, one: &Parse<'_>, other: &Parse<'_>) -> Difference {
         let types = one.types != other.types;
         self.differ("the query", &one.query, &other.query)
             .or_else(|| {
@@ -170,12 +174,12 @@ impl<'a> Bodies<'a> {
     }
 
     /// A part that follows a text and its NUL.
-    fn after(&self, part: &'static str, one: &[u8], other: &[u8]) -> Parting {
+    fn after(&self, part: &'static str, one: &[u8], other: &[u8]) -> Difference {
         let end = |body: &[u8], text: &[u8]| place(body, text) + text.len() + 1;
         self.part(part, 0, end(self.one, one), end(self.other, other))
     }
 
-    fn of_binds(&self, one: &Bind<'_>, other: &Bind<'_>) -> Parting {
+    fn of_binds(&self, one: &Bind<'_>, other: &Bind<'_>) -> Difference {
         if one.formats != other.formats {
             return self.after("the formats of the values", &one.statement, &other.statement);
         }
@@ -200,7 +204,7 @@ impl<'a> Bodies<'a> {
     }
 
     /// Where two values differ that have a place in the list, with the lengths before them.
-    fn of_values(&self, position: usize, one: &Bind<'_>, other: &Bind<'_>) -> Parting {
+    fn of_values(&self, position: usize, one: &Bind<'_>, other: &Bind<'_>) -> Difference {
         let at = |body: &[u8], bind: &Bind<'_>| {
             let formats = 2 + 2 * bind.formats.len();
             let begin = place(body, &bind.statement) + bind.statement.len() + 1 + formats + 2;
@@ -216,14 +220,14 @@ impl<'a> Bodies<'a> {
         self.part("the value of parameter", position + 1, one_at + shared, other_at + shared)
     }
 
-    fn of_executes(&self, one: &Execute<'_>, other: &Execute<'_>) -> Parting {
+    fn of_executes(&self, one: &Execute<'_>, other: &Execute<'_>) -> Difference {
         match one.max_rows == other.max_rows {
             true => self.names("the name of the portal", &one.portal, &other.portal),
             false => self.after("the most rows", &one.portal, &other.portal),
         }
     }
 
-    fn of_targets(&self, one: Target<'_>, other: Target<'_>) -> Option<Parting> {
+    fn of_targets(&self, one: Target<'_>, other: Target<'_>) -> Option<Difference> {
         match (one, other) {
             (Target::Statement(one), Target::Statement(other)) => {
                 Some(self.names("the name of the statement", &one, &other))
@@ -236,7 +240,7 @@ impl<'a> Bodies<'a> {
     }
 
     /// Where two Startups part, whose settings have no order.
-    fn of_startups(&self, one: &Startup<'_>, other: &Startup<'_>) -> Option<Parting> {
+    fn of_startups(&self, one: &Startup<'_>, other: &Startup<'_>) -> Option<Difference> {
         if one.minor != other.minor {
             return Some(self.part("the version of the protocol", 0, 0, 0));
         }

@@ -6,16 +6,16 @@ mod difference;
 mod doubt;
 mod rule;
 
-use crate::pool::Expected;
-use crate::recorded::{Ending, Tape, HEAD, MESSAGE_MOST};
-use crate::rules::Rules;
-use difference::parting;
+use crate::pool::ExpectedRequest;
+use crate::recorded::{ConnectionEnding, Recording, HEAD, MESSAGE_MOST};
+use crate::rules::ReplayRules;
+use difference::difference;
 use lines::trace::{self, Style};
 use pgmsg::backend::{Field, FieldKind, Message, TransactionStatus};
 use std::collections::HashSet;
 
-pub use advice::Adviser;
-pub use difference::Parting;
+pub use advice::RuleAdviser;
+pub use difference::Difference;
 pub use doubt::sentence as doubt;
 
 /// Longer texts are cut.
@@ -23,7 +23,7 @@ const SHOWN: usize = 4096;
 
 /// What is at a side.
 #[derive(Clone, Debug)]
-pub enum Side {
+pub enum ReportedMessage {
     /// Words for what is there in the place of a message.
     Words(String),
     /// A message, from its tag on.
@@ -34,49 +34,51 @@ pub enum Side {
     Long { tag: u8, length: u32 },
 }
 
-impl Side {
-    pub fn message(message: &[u8]) -> Side {
-        Side::Message(message.to_vec())
+impl ReportedMessage {
+    pub fn message(message: &[u8]) -> ReportedMessage {
+        ReportedMessage::Message(message.to_vec())
     }
 
     /// A message of which some bytes are there, of a length with its tag.
-    pub fn bytes(bytes: &[u8], length: usize) -> Side {
+    pub fn bytes(bytes: &[u8], length: usize) -> ReportedMessage {
         match length > MESSAGE_MOST || bytes.len() < length {
-            true => Side::Long { tag: bytes[0], length: (length - 1) as u32 },
-            false => Side::message(bytes),
+            true => ReportedMessage::Long { tag: bytes[0], length: (length - 1) as u32 },
+            false => ReportedMessage::message(bytes),
         }
     }
 
     /// What was recorded in the place of what came.
-    pub fn recorded(tape: &Tape, expected: &Expected) -> Side {
-        let said = match (expected.said, expected.ending) {
-            (Some(said), _) => said,
-            (None, Ending::Terminate) => return Side::Message(b"X\0\0\0\x04".to_vec()),
-            (None, Ending::Unrecorded { .. }) => {
-                return Side::Words("the recording ends here".to_owned())
+    pub fn recorded(recording: &Recording, expected: &ExpectedRequest) -> ReportedMessage {
+        let request = match (expected.request, expected.ending) {
+            (Some(request), _) => request,
+            (None, ConnectionEnding::Terminate) => {
+                return ReportedMessage::Message(b"X\0\0\0\x04".to_vec())
             }
-            (None, _) => return Side::Words("the connection ended".to_owned()),
+            (None, ConnectionEnding::Unrecorded { .. }) => {
+                return ReportedMessage::Words("the recording ends here".to_owned())
+            }
+            (None, _) => return ReportedMessage::Words("the connection ended".to_owned()),
         };
-        match tape.message(said) {
-            Ok(message) => Side::read(message),
-            Err(why) => Side::Words(format!("what {why}")),
+        match recording.message(request) {
+            Ok(message) => ReportedMessage::read(message),
+            Err(why) => ReportedMessage::Words(format!("what {why}")),
         }
     }
 
     /// The Startup of a recorded connection.
-    pub fn startup(tape: &Tape, connection: usize) -> Side {
-        match tape.message(tape.connections[connection].startup) {
-            Ok(message) => Side::Startup(message),
-            Err(why) => Side::Words(format!("what {why}")),
+    pub fn startup(recording: &Recording, connection: usize) -> ReportedMessage {
+        match recording.message(recording.connections[connection].startup) {
+            Ok(message) => ReportedMessage::Startup(message),
+            Err(why) => ReportedMessage::Words(format!("what {why}")),
         }
     }
 
     /// A message of the recording: its head alone where it is long.
-    pub fn read(message: Vec<u8>) -> Side {
+    pub fn read(message: Vec<u8>) -> ReportedMessage {
         let length = message[1..HEAD].iter().fold(0, |sum, byte| sum << 8 | u32::from(*byte));
         match length as usize + 1 > message.len() {
-            true => Side::Long { tag: message[0], length },
-            false => Side::Message(message),
+            true => ReportedMessage::Long { tag: message[0], length },
+            false => ReportedMessage::Message(message),
         }
     }
 
@@ -84,21 +86,23 @@ impl Side {
     fn trace(&self) -> String {
         let (mut out, style, client) = (Vec::new(), Style::Whole, recording::Side::Client);
         match self {
-            Side::Words(_) => {}
-            Side::Message(message) => {
+            ReportedMessage::Words(_) => {}
+            ReportedMessage::Message(message) => {
                 let _ = trace::message(&mut out, style, client, message[0], &message[HEAD..]);
             }
-            Side::Startup(message) => {
+            ReportedMessage::Startup(message) => {
                 let _ = trace::first_message(&mut out, style, &message[4..]);
             }
-            Side::Long { tag, length } => trace::left_out(&mut out, style, client, *tag, *length),
+            ReportedMessage::Long { tag, length } => {
+                trace::left_out(&mut out, style, client, *tag, *length)
+            }
         }
         String::from_utf8_lossy(&out).trim_end_matches('\n').to_owned()
     }
 
     pub(super) fn line(&self) -> String {
         let mut line = match self {
-            Side::Words(words) => words.clone(),
+            ReportedMessage::Words(words) => words.clone(),
             _ => self.trace(),
         };
         if line.len() > SHOWN {
@@ -110,14 +114,14 @@ impl Side {
 }
 
 /// What may differ in what is compared.
-pub struct Allowed<'r> {
-    pub rules: &'r Rules,
-    pub adviser: &'r Adviser,
+pub struct AllowedDifferences<'r> {
+    pub rules: &'r ReplayRules,
+    pub adviser: &'r RuleAdviser,
     /// The text of the statement of a Bind.
     pub statement: Option<Vec<u8>>,
 }
 
-impl Allowed<'_> {
+impl AllowedDifferences<'_> {
     /// Tells whether the value of a parameter may differ, by its position from 1 on.
     fn any_value(&self) -> impl Fn(usize) -> bool + '_ {
         let rules = self.rules;
@@ -128,7 +132,7 @@ impl Allowed<'_> {
 }
 
 /// A difference.
-pub struct Report {
+pub struct DifferenceReport {
     is_startup: bool,
     sentence: String,
     sides: String,
@@ -136,22 +140,22 @@ pub struct Report {
     more: String,
 }
 
-impl Report {
+impl DifferenceReport {
     /// Of a message of a connection, where one is taken.
     pub fn new(
         place: (Option<u32>, u32),
-        allowed: &Allowed<'_>,
-        recorded: &Side,
-        received: &Side,
-        part: Option<Parting>,
-    ) -> Report {
+        allowed: &AllowedDifferences<'_>,
+        recorded: &ReportedMessage,
+        received: &ReportedMessage,
+        part: Option<Difference>,
+    ) -> DifferenceReport {
         let (connection, number) = place;
         let connection = connection.map_or(String::new(), |it| format!(" of connection {it}"));
-        let part = part.or_else(|| parting(allowed, recorded, received));
+        let part = part.or_else(|| difference(allowed, recorded, received));
         let part = part.map_or(String::new(), |it| format!(": {}", it.words(recorded, received)));
         let rule = rule::of(allowed, recorded, received);
         let rule = rule.map_or(String::new(), |it| allowed.adviser.words(&it));
-        Report {
+        DifferenceReport {
             is_startup: number == 1,
             sentence: format!("message {number}{connection} isn't the recorded one{part}"),
             sides: format!("recorded: {}\nreceived: {}", recorded.line(), received.line()),
@@ -160,10 +164,10 @@ impl Report {
     }
 
     /// Of a message of a client that may mean another one, which isn't let pass.
-    pub fn of_doubt(tape: &Tape, said: usize, rival: usize) -> Report {
-        Report {
-            is_startup: tape.is_startup(said),
-            sentence: doubt(tape, said, rival),
+    pub fn of_doubt(recording: &Recording, request: usize, rival: usize) -> DifferenceReport {
+        DifferenceReport {
+            is_startup: recording.is_startup(request),
+            sentence: doubt(recording, request, rival),
             sides: doubt::ADVICE.to_owned(),
             more: String::new(),
         }

@@ -1,7 +1,7 @@
 //! The rule that would let a difference be.
 
-use super::diff::{by_name, common, compared, ByName};
-use super::{Allowed, Side};
+use super::diff::{by_name, common, compared, PartsByName};
+use super::{AllowedDifferences, ReportedMessage};
 use lines::is_obeyed;
 use once_cell::sync::OnceCell;
 use regex::bytes::Regex;
@@ -20,12 +20,16 @@ const ANY_TIME: &str = r"[\w :.,/+-]+";
 const CONTEXT: usize = 32;
 
 /// The rule that lets one side be as the other, where one does: as a part of a file of rules.
-pub fn of(allowed: &Allowed<'_>, recorded: &Side, received: &Side) -> Option<String> {
+pub fn of(
+    allowed: &AllowedDifferences<'_>,
+    recorded: &ReportedMessage,
+    received: &ReportedMessage,
+) -> Option<String> {
     let (one, other) = (compared(allowed, recorded)?, compared(allowed, received)?);
     let (one, other) = (by_name(&one), by_name(&other));
     let rules = allowed.rules;
     match recorded {
-        Side::Startup(_) => Some(of_settings(&one, &other)),
+        ReportedMessage::Startup(_) => Some(of_settings(&one, &other)),
         _ if one.get("kind") != other.get("kind") => None,
         _ => match (one.get("query"), other.get("query")) {
             (Some(one), Some(other)) => of_texts(&rules.text(one), &rules.text(other)),
@@ -52,7 +56,7 @@ fn escaped(text: &str) -> String {
     text.chars().map(escape).collect()
 }
 
-fn of_settings(one: &ByName<'_>, other: &ByName<'_>) -> String {
+fn of_settings(one: &PartsByName<'_>, other: &PartsByName<'_>) -> String {
     let mut names: Vec<_> = one.keys().chain(other.keys()).copied().collect();
     names.sort_unstable();
     names.dedup();
@@ -61,7 +65,11 @@ fn of_settings(one: &ByName<'_>, other: &ByName<'_>) -> String {
     format!("[settings]\nignore = [{}]", names.join(", "))
 }
 
-fn of_parameters(statement: &[u8], one: &ByName<'_>, other: &ByName<'_>) -> Option<String> {
+fn of_parameters(
+    statement: &[u8],
+    one: &PartsByName<'_>,
+    other: &PartsByName<'_>,
+) -> Option<String> {
     let text = std::str::from_utf8(statement).ok()?;
     let texts = times_in(text).fold((String::new(), 0), |(pattern, at), time| {
         (pattern + &regex::escape(&text[at..time.start]) + ANY_TIME, time.end)

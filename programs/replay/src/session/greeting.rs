@@ -1,10 +1,10 @@
 //! A client that connects, up to its session.
 
 use super::passing::pass_all;
-use super::{linger, say, Session, Taping};
-use crate::fingerprint::{Former, UNRECORDED};
+use super::{linger, say, ReplaySession, SessionRecorder};
+use crate::fingerprint::{Fingerprinter, UNRECORDED};
 use crate::pool::Claim;
-use crate::report::{fatal, Report, Side};
+use crate::report::{fatal, DifferenceReport, ReportedMessage};
 use crate::serve::Shared;
 use anyhow::Result;
 use net::{open, FirstMessage, Stream};
@@ -23,7 +23,7 @@ const TAKING_PATIENCE: Duration = Duration::from_millis(2500);
 const TAKING_PAUSE: Duration = Duration::from_millis(5);
 
 /// A client that has said its Startup, and its password where it was asked for one.
-struct Guest {
+struct AuthenticatedClient {
     /// Its address.
     peer: String,
     stream: Stream,
@@ -40,20 +40,24 @@ pub async fn greet(
     peer: String,
     has_to_go: oneshot::Receiver<()>,
 ) {
-    let guest = tokio::select! {
-        guest = timeout(OPENING_PATIENCE, receive(shared, stream, peer)) => guest,
+    let client = tokio::select! {
+        client = timeout(OPENING_PATIENCE, receive(shared, stream, peer)) => client,
         _ = has_to_go => return,
     };
-    match guest {
+    match client {
         Err(_) => shared.stderr.say("a client took too long to open its session"),
         Ok(Err(why)) => shared.stderr.say(format!("a connection is refused: {why:#}")),
         Ok(Ok(None)) => {}
-        Ok(Ok(Some(guest))) => seat(shared, guest).await,
+        Ok(Ok(Some(client))) => give_slot(shared, client).await,
     }
 }
 
 /// Takes the first message. `None` where it is none of a session, or the client hangs up.
-async fn receive(shared: &Shared, stream: Stream, peer: String) -> Result<Option<Guest>> {
+async fn receive(
+    shared: &Shared,
+    stream: Stream,
+    peer: String,
+) -> Result<Option<AuthenticatedClient>> {
     let Some(mut opened) = open(stream, shared.tls.as_ref()).await? else {
         return Ok(None);
     };
@@ -80,7 +84,7 @@ async fn receive(shared: &Shared, stream: Stream, peer: String) -> Result<Option
             }
         };
     }
-    Ok(Some(Guest { peer, stream: opened.stream, startup: opened.bytes, rest }))
+    Ok(Some(AuthenticatedClient { peer, stream: opened.stream, startup: opened.bytes, rest }))
 }
 
 /// Ends a login as a server does.
@@ -91,78 +95,84 @@ async fn refuse(stream: &mut Stream) {
 }
 
 /// Gives a client a recorded connection, and serves it.
-async fn seat(shared: &Shared, guest: Guest) {
-    let former = &mut Former::new(shared.rules.clone());
-    let form = shared.tape.forms.find(former.message(None, &guest.startup[4..]));
-    match claim(shared, form).await {
-        Claim::Seat(seat) => {
-            if let Some(ended) = serve(shared, guest, seat).await.transpose() {
-                shared.leave(seat, ended);
+async fn give_slot(shared: &Shared, client: AuthenticatedClient) {
+    let fingerprinter = &mut Fingerprinter::new(shared.rules.clone());
+    let fingerprint =
+        shared.recording.fingerprints.find(fingerprinter.message(None, &client.startup[4..]));
+    match claim(shared, fingerprint).await {
+        Claim::Slot(slot) => {
+            if let Some(ended) = serve(shared, client, slot).await.transpose() {
+                shared.leave(slot, ended);
             }
         }
-        Claim::Differs(connection) => match pass_on(shared, guest).await {
+        Claim::Differs(connection) => match pass_on(shared, client).await {
             Ok(()) => {}
-            Err(guest) => differ(shared, guest, connection).await,
+            Err(client) => differ(shared, client, connection).await,
         },
     }
 }
 
-/// Serves a client that has the seat of a recorded connection. `None` where it left that to others, and went on with a server.
-async fn serve(shared: &Shared, mut guest: Guest, seat: usize) -> Result<Option<bool>> {
-    let recorded = &shared.tape.connections[seat];
+/// Serves a client that has the slot of a recorded connection. `None` where it left that to others, and went on with a server.
+async fn serve(
+    shared: &Shared,
+    mut client: AuthenticatedClient,
+    slot: usize,
+) -> Result<Option<bool>> {
+    let recorded = &shared.recording.connections[slot];
     if recorded.is_left_at_password {
-        return Ok(Some(ask_in_vain(&mut guest).await.is_ok()));
+        return Ok(Some(ask_in_vain(&mut client).await.is_ok()));
     }
-    let Guest { peer, stream, startup, rest } = guest;
-    let taping = match &shared.renewal {
+    let AuthenticatedClient { peer, stream, startup, rest } = client;
+    let recorder = match &shared.renewal {
         None => None,
-        Some(renewal) => match Taping::begin(renewal, &peer, &startup).await {
-            Ok(taping) => Some(taping),
+        Some(renewal) => match SessionRecorder::begin(renewal, &peer, &startup).await {
+            Ok(recorder) => Some(recorder),
             // Why nothing is recorded any more is told already.
             Err(Stopped) => return Ok(Some(false)),
         },
     };
-    Session::new(shared, seat, taping).serve(stream, recorded.startup, rest).await
+    ReplaySession::new(shared, slot, recorder).serve(stream, recorded.startup, rest).await
 }
 
 /// Passes a client on to the server where none of its session is recorded; gives it back where there is no server.
-async fn pass_on(shared: &Shared, guest: Guest) -> Result<(), Guest> {
+async fn pass_on(shared: &Shared, client: AuthenticatedClient) -> Result<(), AuthenticatedClient> {
     let Some(renewal) = &shared.renewal else {
-        return Err(guest);
+        return Err(client);
     };
-    let Guest { peer, stream, startup, rest } = guest;
+    let AuthenticatedClient { peer, stream, startup, rest } = client;
     let said = ([&startup[..], &rest].concat(), startup.len());
     match pass_all(shared, renewal, &peer, stream, said).await {
         Ok(()) => Ok(()),
-        Err(stream) => Err(Guest { peer, stream, startup, rest }),
+        Err(stream) => Err(AuthenticatedClient { peer, stream, startup, rest }),
     }
 }
 
 /// Ends a client whose Startup isn't that of the connection which it would get.
-async fn differ(shared: &Shared, mut guest: Guest, connection: Option<usize>) {
+async fn differ(shared: &Shared, mut client: AuthenticatedClient, connection: Option<usize>) {
     let recorded = match connection {
-        Some(connection) => Side::startup(&shared.tape, connection),
-        None => Side::Words("no connection that isn't replayed".to_owned()),
+        Some(connection) => ReportedMessage::startup(&shared.recording, connection),
+        None => ReportedMessage::Words("no connection that isn't replayed".to_owned()),
     };
-    let number = connection.map(|it| shared.tape.connections[it].number);
-    let received = Side::Startup(guest.startup);
-    let report = Report::new((number, 1), &shared.allowed(None), &recorded, &received, None);
+    let number = connection.map(|it| shared.recording.connections[it].number);
+    let received = ReportedMessage::Startup(client.startup);
+    let report =
+        DifferenceReport::new((number, 1), &shared.allowed(None), &recorded, &received, None);
     shared.tell_difference(&report);
-    let _ = guest.stream.write_all(&report.error()).await;
-    let _ = guest.stream.flush().await;
-    linger(&mut guest.stream).await;
+    let _ = client.stream.write_all(&report.error()).await;
+    let _ = client.stream.flush().await;
+    linger(&mut client.stream).await;
     shared.fail(connection);
 }
 
 /// Waits a while for a connection that another client has, which may be about to leave.
-async fn claim(shared: &Shared, form: u32) -> Claim {
+async fn claim(shared: &Shared, fingerprint: u32) -> Claim {
     let begun = Instant::now();
     loop {
-        let claim = shared.pool().claim(form);
+        let claim = shared.pool().claim(fingerprint);
         let may_fit = match claim {
-            Claim::Seat(_) => false,
+            Claim::Slot(_) => false,
             // What a server answers has to wait for no recorded connection.
-            Claim::Differs(_) if shared.renewal.is_some() && form == UNRECORDED => false,
+            Claim::Differs(_) if shared.renewal.is_some() && fingerprint == UNRECORDED => false,
             Claim::Differs(first) => first.is_none() || shared.any_order,
         };
         if !(may_fit
@@ -177,12 +187,12 @@ async fn claim(shared: &Shared, form: u32) -> Claim {
 }
 
 /// Asks for a password where the recorded client left at that request: this one leaves too, or is left.
-async fn ask_in_vain(guest: &mut Guest) -> Result<bool> {
-    say(&mut guest.stream, &Message::Authentication(Authentication::CleartextPassword)).await?;
+async fn ask_in_vain(client: &mut AuthenticatedClient) -> Result<bool> {
+    say(&mut client.stream, &Message::Authentication(Authentication::CleartextPassword)).await?;
     let mut answer = [0];
     let _ =
-        timeout(OPENING_PATIENCE, tokio::io::AsyncReadExt::read(&mut guest.stream, &mut answer))
+        timeout(OPENING_PATIENCE, tokio::io::AsyncReadExt::read(&mut client.stream, &mut answer))
             .await;
-    linger(&mut guest.stream).await;
+    linger(&mut client.stream).await;
     Ok(true)
 }

@@ -9,18 +9,18 @@ mod send_queue;
 mod take;
 
 pub use greeting::greet;
-pub use recorder::Taping;
-pub use scram::Login;
+pub use recorder::SessionRecorder;
+pub use scram::ScramSecret;
 
-use crate::fingerprint::Former;
-use crate::recorded::{Changed, Cutter, Ending, Place, SpokenReader};
-use crate::report::{Parting, Report, Side};
+use crate::fingerprint::Fingerprinter;
+use crate::recorded::{ChunkOffset, ConnectionEnding, MessageSplitter, RequestReader, RereadError};
+use crate::report::{Difference, DifferenceReport, ReportedMessage};
 use crate::serve::Shared;
 use anyhow::Result;
 use net::{ExitStatus, Failure, Stream};
 use pgmsg::backend::Message;
-use recovery::Lost;
-use send_queue::{Outgoing, Sent};
+use recovery::RefuseUntil;
+use send_queue::{SendQueue, SendWait};
 use std::time::{Duration, Instant};
 use tokio::io::{AsyncReadExt, AsyncWriteExt};
 use tokio::sync::futures::Notified;
@@ -33,7 +33,7 @@ const READ_AT_ONCE: usize = 64 << 10;
 
 /// Whether more is taken of a client.
 #[derive(Clone, Copy, Debug, PartialEq, Eq)]
-enum State {
+enum SessionPhase {
     Serving,
     /// What is to be sent is sent in its time, unless the client says more before: the server hung up after it.
     HangingUp,
@@ -44,36 +44,36 @@ enum State {
 }
 
 /// A message or data that are compared as bytes.
-struct Run {
-    said: usize,
-    reader: SpokenReader,
+struct ByteComparison {
+    request: usize,
+    reader: RequestReader,
     len: u64,
     left: u64,
     /// They are a COPY's data, after which others may come.
     is_data: bool,
     /// Where the recorded message begins.
-    begins: Place,
+    begins: ChunkOffset,
 }
 
-pub struct Session<'s> {
+pub struct ReplaySession<'s> {
     shared: &'s Shared,
-    seat: usize,
-    state: State,
+    slot: usize,
+    phase: SessionPhase,
     has_failed: bool,
     /// The recorded message that comes next, while the client says byte by byte what was recorded: names stand for the same
     /// as there.
     next: Option<usize>,
-    /// Makes the forms of what it says otherwise.
-    former: Former,
-    cutter: Cutter,
+    /// Makes the fingerprints of what it says otherwise.
+    fingerprinter: Fingerprinter,
+    splitter: MessageSplitter,
     /// Where a long message isn't over, how many bytes of it came.
     long: usize,
-    run: Option<Run>,
+    comparison: Option<ByteComparison>,
     /// What the client said within a transaction isn't recorded.
-    lost: Option<Lost>,
-    out: Outgoing<'s>,
+    refuse_until: Option<RefuseUntil>,
+    out: SendQueue<'s>,
     /// The difference where something is missing.
-    missing: Option<Report>,
+    missing: Option<DifferenceReport>,
     /// The client says no more.
     is_leaving: bool,
     /// Messages of the standby's state are left out.
@@ -91,21 +91,25 @@ pub struct Session<'s> {
     ends_run: bool,
 }
 
-impl<'s> Session<'s> {
-    /// The session of a client that has a seat, which may be recorded too.
-    pub fn new(shared: &'s Shared, seat: usize, taping: Option<Taping<'s>>) -> Session<'s> {
-        Session {
+impl<'s> ReplaySession<'s> {
+    /// The session of a client that has a slot, which may be recorded too.
+    pub fn new(
+        shared: &'s Shared,
+        slot: usize,
+        recorder: Option<SessionRecorder<'s>>,
+    ) -> ReplaySession<'s> {
+        ReplaySession {
             shared,
-            seat,
-            state: State::Serving,
+            slot,
+            phase: SessionPhase::Serving,
             has_failed: false,
             next: None,
-            former: Former::new(shared.rules.clone()),
-            cutter: Cutter::of_client(),
+            fingerprinter: Fingerprinter::new(shared.rules.clone()),
+            splitter: MessageSplitter::of_client(),
             long: 0,
-            run: None,
-            lost: None,
-            out: Outgoing::new(shared.keeps_times, taping),
+            comparison: None,
+            refuse_until: None,
+            out: SendQueue::new(shared.keeps_times, recorder),
             missing: None,
             is_leaving: false,
             is_both: false,
@@ -126,42 +130,42 @@ impl<'s> Session<'s> {
         startup: usize,
         bytes: Vec<u8>,
     ) -> Result<Option<bool>> {
-        let rival = self.shared.pool().rival_of_login(self.seat);
+        let rival = self.shared.pool().rival_of_login(self.slot);
         if self.passes(startup, rival) {
-            self.out.add(&self.shared.tape, startup, self.heard_at);
+            self.out.add(&self.shared.recording, startup, self.heard_at);
             self.next = Some(startup + 1);
             self.end_without_turns();
         }
         self.note(&bytes).await;
         let ends = self.talk(&mut stream, bytes).await;
-        if self.state == State::Missing && ends.is_ok() {
+        if self.phase == SessionPhase::Missing && ends.is_ok() {
             let Some(left) = self.pass_on(stream).await else {
                 return Ok(None);
             };
             stream = left;
         }
-        if self.state == State::Ending && ends.is_ok() {
+        if self.phase == SessionPhase::Ending && ends.is_ok() {
             let _ = timeout(PATIENCE_WITH_ERROR, self.send_rest(&mut stream)).await;
             linger(&mut stream).await;
         }
-        self.end_taping().await;
+        self.end_recording().await;
         ends.map(|()| Some(!self.has_failed))
     }
 
     /// Ends a session of which nothing after its Startup is recorded, where its client didn't end it.
     fn end_without_turns(&mut self) {
-        let expected = self.shared.pool().expected(self.seat);
+        let expected = self.shared.pool().expected(self.slot);
         match expected.ending {
             _ if expected.has_turns => {}
-            Ending::ByServer => self.state = State::HangingUp,
-            Ending::Unrecorded { is_idle: false } => self.differ_at_cut(),
+            ConnectionEnding::ByServer => self.phase = SessionPhase::HangingUp,
+            ConnectionEnding::Unrecorded { is_idle: false } => self.differ_at_cut(),
             _ => {}
         }
     }
 
     /// Whether the session goes on where another message fits that was answered otherwise, if one does.
-    fn passes(&mut self, said: usize, rival: Option<usize>) -> bool {
-        let report = rival.and_then(|it| self.shared.tell_doubt(said, it));
+    fn passes(&mut self, request: usize, rival: Option<usize>) -> bool {
+        let report = rival.and_then(|it| self.shared.tell_doubt(request, it));
         if let Some(report) = &report {
             self.refuse_all(report);
         }
@@ -170,8 +174,12 @@ impl<'s> Session<'s> {
 
     /// Ends the session where the recording does, in the midst of an answer.
     fn differ_at_cut(&mut self) {
-        let recorded = Side::Words("the recording ends here".to_owned());
-        self.differ_from(&recorded, &Side::Words("a client that waits for more".to_owned()), None);
+        let recorded = ReportedMessage::Words("the recording ends here".to_owned());
+        self.differ_from(
+            &recorded,
+            &ReportedMessage::Words("a client that waits for more".to_owned()),
+            None,
+        );
     }
 
     /// Takes what comes and sends what answers it, until nothing more is to be taken.
@@ -181,19 +189,19 @@ impl<'s> Session<'s> {
             let stirred = self.shared.stirred.notified();
             self.take(&bytes).map_err(|why| self.changed(&why))?;
             bytes.clear();
-            if matches!(self.state, State::Ending | State::Missing) {
+            if matches!(self.phase, SessionPhase::Ending | SessionPhase::Missing) {
                 return Ok(());
             }
-            let waits = match self.out.send(self.shared, self.seat, stream, self.holds).await {
+            let waits = match self.out.send(self.shared, self.slot, stream, self.holds).await {
                 Ok(sent) => sent,
-                Err(send_queue::Unsent::Changed(why)) => return Err(self.changed(&why).into()),
+                Err(send_queue::SendError::Changed(why)) => return Err(self.changed(&why).into()),
                 // A client that is gone hears nothing more.
-                Err(send_queue::Unsent::Broken) => {
+                Err(send_queue::SendError::Broken) => {
                     return self.end_of_client().map_err(|why| self.changed(&why).into())
                 }
             };
-            if self.state == State::HangingUp && self.out.is_empty() {
-                self.state = State::Ending;
+            if self.phase == SessionPhase::HangingUp && self.out.is_empty() {
+                self.phase = SessionPhase::Ending;
                 return Ok(());
             }
             if !self.wait(stream, &mut bytes, waits, stirred).await {
@@ -207,7 +215,7 @@ impl<'s> Session<'s> {
         &mut self,
         stream: &mut Stream,
         bytes: &mut Vec<u8>,
-        waits: Sent,
+        waits: SendWait,
         stirred: Notified<'_>,
     ) -> bool {
         bytes.reserve(READ_AT_ONCE);
@@ -235,7 +243,7 @@ impl<'s> Session<'s> {
     fn check_patience(&mut self, patience: Option<Instant>) {
         if patience.map_or(false, |it| Instant::now() >= it) {
             self.is_leaving = true;
-            self.differ(Side::Words("nothing, for too long".to_owned()));
+            self.differ(ReportedMessage::Words("nothing, for too long".to_owned()));
         }
     }
 
@@ -245,55 +253,65 @@ impl<'s> Session<'s> {
     }
 
     /// Ends the session where the client says otherwise than recorded.
-    fn differ(&mut self, received: Side) {
+    fn differ(&mut self, received: ReportedMessage) {
         let report = self.report(&received);
         self.end_by(report);
     }
 
     /// The same with what was recorded, and with the place where both part.
-    fn differ_from(&mut self, recorded: &Side, received: &Side, part: Option<Parting>) {
+    fn differ_from(
+        &mut self,
+        recorded: &ReportedMessage,
+        received: &ReportedMessage,
+        part: Option<Difference>,
+    ) {
         let report = self.report_of(recorded, received, part);
         self.end_by(report);
     }
 
     /// The difference of what the client says.
-    fn report(&self, received: &Side) -> Report {
-        let expected = self.shared.pool().expected(self.seat);
-        let recorded = Side::recorded(&self.shared.tape, &expected);
+    fn report(&self, received: &ReportedMessage) -> DifferenceReport {
+        let expected = self.shared.pool().expected(self.slot);
+        let recorded = ReportedMessage::recorded(&self.shared.recording, &expected);
         self.report_of(&recorded, received, None)
     }
 
-    fn report_of(&self, recorded: &Side, received: &Side, part: Option<Parting>) -> Report {
-        let (expected, shared) = (self.shared.pool().expected(self.seat), self.shared);
-        let statement = expected.said.and_then(|it| shared.tape.statement_of(it));
+    fn report_of(
+        &self,
+        recorded: &ReportedMessage,
+        received: &ReportedMessage,
+        part: Option<Difference>,
+    ) -> DifferenceReport {
+        let (expected, shared) = (self.shared.pool().expected(self.slot), self.shared);
+        let statement = expected.request.and_then(|it| shared.recording.statement_of(it));
         let place = (Some(expected.connection), expected.number);
-        Report::new(place, &shared.allowed(statement), recorded, received, part)
+        DifferenceReport::new(place, &shared.allowed(statement), recorded, received, part)
     }
 
-    fn end_by(&mut self, report: Report) {
-        if self.out.taping.is_some() && !self.is_leaving {
+    fn end_by(&mut self, report: DifferenceReport) {
+        if self.out.recorder.is_some() && !self.is_leaving {
             self.missing = Some(report);
-            self.state = State::Missing;
+            self.phase = SessionPhase::Missing;
         } else {
             self.fail(&report);
         }
     }
 
     /// Ends the session by a difference.
-    fn fail(&mut self, report: &Report) {
+    fn fail(&mut self, report: &DifferenceReport) {
         self.shared.tell_difference(report);
         self.refuse_all(report);
     }
 
     /// Ends the session by an error.
-    fn refuse_all(&mut self, report: &Report) {
+    fn refuse_all(&mut self, report: &DifferenceReport) {
         self.out.add_made(report.error());
         self.has_failed = true;
-        self.state = State::Ending;
+        self.phase = SessionPhase::Ending;
     }
 
-    fn changed(&self, why: &Changed) -> Failure {
-        Failure::new(ExitStatus::Damaged, format!("{} {why}", self.shared.tape.path.display()))
+    fn changed(&self, why: &RereadError) -> Failure {
+        Failure::new(ExitStatus::Damaged, format!("{} {why}", self.shared.recording.path.display()))
     }
 }
 

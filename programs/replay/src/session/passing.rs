@@ -1,34 +1,34 @@
 //! Going on with a server where a client says what isn't recorded.
 
-use super::Session;
+use super::ReplaySession;
 use crate::renewal::Renewal;
 use crate::serve::Shared;
 use net::Stream;
 use pg_record::{pass, Link, LinkError, LinkStart};
 use recording::Side;
 
-impl Session<'_> {
+impl ReplaySession<'_> {
     /// Records what the client said, where the session is recorded. Where that can't be done any more all ends.
     pub(super) async fn note(&mut self, bytes: &[u8]) {
-        if let Some(taping) = &mut self.out.taping {
-            let _ = taping.say(bytes).await;
+        if let Some(recorder) = &mut self.out.recorder {
+            let _ = recorder.say(bytes).await;
         }
     }
 
     /// Passes the session on to the server from the exchange at hand on. Gives the client back where that can't be done, which
     /// is a difference then.
     pub(super) async fn pass_on(&mut self, client: Stream) -> Option<Stream> {
-        let (shared, number) = (self.shared, self.out.taping.as_ref()?.number);
+        let (shared, number) = (self.shared, self.out.recorder.as_ref()?.number);
         let (Some(renewal), Some(report)) = (&shared.renewal, self.missing.take()) else {
             return Some(client);
         };
-        let caught = match &mut self.out.taping {
-            Some(taping) => taping.catch_up().await,
+        let caught = match &mut self.out.recorder {
+            Some(recorder) => recorder.catch_up().await,
             None => return Some(client),
         };
         match caught {
             Ok((server, from_server, from_client)) => {
-                shared.pool().give_back(self.seat);
+                shared.pool().give_back(self.slot);
                 renewal.keep(number);
                 let link =
                     Link { client, server, from_client, from_server, begin: LinkStart::Open };
@@ -46,9 +46,9 @@ impl Session<'_> {
     }
 
     /// Ends the recording of a session that was replayed, which nobody needs.
-    pub(super) async fn end_taping(&mut self) {
-        if let Some(taping) = self.out.taping.take() {
-            let _ = taping.end(Side::Client).await;
+    pub(super) async fn end_recording(&mut self) {
+        if let Some(recorder) = self.out.recorder.take() {
+            let _ = recorder.end(Side::Client).await;
         }
     }
 }

@@ -1,6 +1,6 @@
 //! The recording of a session while it is replayed, from which it can go on with a server.
 
-use crate::recorded::{Cut, Cutter};
+use crate::recorded::{MessageSlice, MessageSplitter};
 use crate::renewal::Renewal;
 use anyhow::{bail, ensure, Result};
 use net::Stream;
@@ -20,14 +20,14 @@ const HEARD_MOST: usize = 10_000;
 const PATIENCE: Duration = Duration::from_secs(60);
 
 /// What a client said and heard.
-pub struct Taping<'s> {
+pub struct SessionRecorder<'s> {
     renewal: &'s Renewal,
     /// Of the connection in this run.
     pub number: u32,
     startup: Vec<u8>,
     /// What the client said since it heard something, its Startup too. It isn't recorded yet.
     pending: Vec<u8>,
-    server: Cutter,
+    server: MessageSplitter,
     /// How many ReadyForQuery the client heard, and the tags of the messages that it heard after the last one.
     readies: usize,
     heard: Vec<u8>,
@@ -38,17 +38,25 @@ fn is_answer(tag: u8) -> bool {
     !matches!(tag, b'N' | b'S' | b'A')
 }
 
-impl<'s> Taping<'s> {
+impl<'s> SessionRecorder<'s> {
     /// Begins with a client, at an address, that has said its Startup.
     pub async fn begin(
         renewal: &'s Renewal,
         peer: &str,
         startup: &[u8],
-    ) -> Result<Taping<'s>, Stopped> {
+    ) -> Result<SessionRecorder<'s>, Stopped> {
         let number = renewal.sink.open(peer).await?;
-        let (startup, server) = (startup.to_vec(), Cutter::of_server());
+        let (startup, server) = (startup.to_vec(), MessageSplitter::of_server());
         let pending = startup.clone();
-        Ok(Taping { renewal, number, startup, pending, server, readies: 0, heard: Vec::new() })
+        Ok(SessionRecorder {
+            renewal,
+            number,
+            startup,
+            pending,
+            server,
+            readies: 0,
+            heard: Vec::new(),
+        })
     }
 
     /// Takes what the client says.
@@ -67,11 +75,13 @@ impl<'s> Taping<'s> {
         let mut rest = bytes;
         while let Ok(Some(cut)) = self.server.cut(&mut rest) {
             match cut {
-                Cut::Whole([b'Z', ..]) => {
+                MessageSlice::Whole([b'Z', ..]) => {
                     self.readies += 1;
                     self.heard.clear();
                 }
-                Cut::Whole(&[tag, ..]) if is_answer(tag) && self.heard.len() <= HEARD_MOST => {
+                MessageSlice::Whole(&[tag, ..])
+                    if is_answer(tag) && self.heard.len() <= HEARD_MOST =>
+                {
                     self.heard.push(tag)
                 }
                 _ => {}
@@ -112,7 +122,8 @@ impl<'s> Taping<'s> {
     async fn repeat(&self) -> Result<(Stream, Vec<u8>)> {
         let (mut server, answer) = self.renewal.say(&self.startup).await?;
         let (mut from, mut to) = split(&mut server);
-        let heard = Heard { readies: self.readies, tags: &self.heard, error: String::new() };
+        let heard =
+            AnswerSkipper { readies: self.readies, tags: &self.heard, error: String::new() };
         let (says, listens) = (self.say_again(&mut to), heard.listen(&mut from, answer));
         let (_, rest) = tokio::try_join!(says, listens)?;
         Ok((server, rest))
@@ -136,14 +147,14 @@ impl<'s> Taping<'s> {
 }
 
 /// What a client has heard.
-struct Heard<'t> {
+struct AnswerSkipper<'t> {
     readies: usize,
     tags: &'t [u8],
     /// The last error of the server.
     error: String,
 }
 
-impl Heard<'_> {
+impl AnswerSkipper<'_> {
     /// Reads as much of another server, of which some came before, and gives what came after it.
     async fn listen(
         mut self,

@@ -2,21 +2,21 @@
 //! follows is refused, until the client rolls back what the recorded one rolled back later, too: nothing is left then of what
 //! both did otherwise.
 
-use super::{Session, State};
+use super::{ReplaySession, SessionPhase};
 use crate::fingerprint::is_rollback;
-use crate::pool::Fit;
-use crate::recorded::{Changed, What, HEAD};
-use crate::report::{bytes_of, refusal, Side};
+use crate::pool::MatchedRequest;
+use crate::recorded::{CompareBy, RereadError, HEAD};
+use crate::report::{bytes_of, refusal, ReportedMessage};
 use pgmsg::backend::{Message as Answer, TransactionStatus};
 use pgmsg::frontend::Message;
 
 /// What a client is refused that said something else than recorded.
 #[derive(Clone, Copy, Debug, PartialEq, Eq)]
-pub enum Lost {
+pub enum RefuseUntil {
     /// All but a rollback.
-    Transaction,
+    Rollback,
     /// All up to the next Sync, too.
-    Exchange,
+    Sync,
 }
 
 /// Whether a message rolls back a transaction or a part of it.
@@ -28,14 +28,14 @@ fn rolls_back(message: &[u8]) -> bool {
     }
 }
 
-impl Session<'_> {
+impl ReplaySession<'_> {
     /// Takes what isn't recorded: by an error after which the session can go on, or by one that ends it.
-    pub(super) fn take_other(&mut self, message: &[u8]) -> Result<(), Changed> {
-        if !self.shared.goes_on || self.out.taping.is_some() || !self.is_rolled_back_later()? {
-            self.differ(Side::message(message));
+    pub(super) fn take_other(&mut self, message: &[u8]) -> Result<(), RereadError> {
+        if !self.shared.goes_on || self.out.recorder.is_some() || !self.is_rolled_back_later()? {
+            self.differ(ReportedMessage::message(message));
             return Ok(());
         }
-        let report = self.report(&Side::message(message));
+        let report = self.report(&ReportedMessage::message(message));
         self.shared.tell_difference(&report);
         self.has_failed = true;
         self.refuse(message, report.refusal());
@@ -43,11 +43,12 @@ impl Session<'_> {
     }
 
     /// Whether the recorded client rolled back, later in the transaction at hand.
-    fn is_rolled_back_later(&self) -> Result<bool, Changed> {
-        let (tape, ahead) = (&self.shared.tape, self.shared.pool().ahead(self.seat));
-        for said in ahead {
-            let is_text = matches!(tape.script.what(said), What::Form(_));
-            if is_text && rolls_back(&tape.message(said)?) {
+    fn is_rolled_back_later(&self) -> Result<bool, RereadError> {
+        let (recording, ahead) = (&self.shared.recording, self.shared.pool().ahead(self.slot));
+        for request in ahead {
+            let is_text =
+                matches!(recording.requests.compare_by(request), CompareBy::Fingerprint(_));
+            if is_text && rolls_back(&recording.message(request)?) {
                 return Ok(true);
             }
         }
@@ -55,19 +56,23 @@ impl Session<'_> {
     }
 
     /// Takes a message of a client that is lost.
-    pub(super) fn take_lost(&mut self, lost: Lost, message: &[u8]) -> Result<(), Changed> {
+    pub(super) fn take_refused(
+        &mut self,
+        refuse_until: RefuseUntil,
+        message: &[u8],
+    ) -> Result<(), RereadError> {
         match message[0] {
-            b'X' => self.state = State::Ending,
+            b'X' => self.phase = SessionPhase::Ending,
             b'S' => {
-                self.lost = Some(Lost::Transaction);
+                self.refuse_until = Some(RefuseUntil::Rollback);
                 self.add_failed();
             }
             // Data of a COPY that was refused have no answer, and a Flush has none.
             b'd' | b'c' | b'f' | b'H' => {}
-            _ if lost == Lost::Exchange => {}
+            _ if refuse_until == RefuseUntil::Sync => {}
             _ => match self.found_again(message)? {
                 Some(fit) => {
-                    self.lost = None;
+                    self.refuse_until = None;
                     self.fit(fit);
                 }
                 None => self.refuse(
@@ -80,16 +85,21 @@ impl Session<'_> {
     }
 
     /// Finds where the recorded client rolled back as this one does.
-    fn found_again(&mut self, message: &[u8]) -> Result<Option<Fit>, Changed> {
+    fn found_again(&mut self, message: &[u8]) -> Result<Option<MatchedRequest>, RereadError> {
         if !rolls_back(message) {
             return Ok(None);
         }
-        let form = self.form_of(message)?;
-        let (shared, ahead) = (self.shared, self.shared.pool().ahead(self.seat));
-        let found = shared.tape.undone(ahead, form, self.former.undone(), &shared.rules)?;
-        Ok(found.map(|said| {
-            self.former.settle(form);
-            shared.pool().skip_to(self.seat, said)
+        let fingerprint = self.fingerprint_of(message)?;
+        let (shared, ahead) = (self.shared, self.shared.pool().ahead(self.slot));
+        let found = shared.recording.undone(
+            ahead,
+            fingerprint,
+            self.fingerprinter.undone(),
+            &shared.rules,
+        )?;
+        Ok(found.map(|request| {
+            self.fingerprinter.settle(fingerprint);
+            shared.pool().skip_to(self.slot, request)
         }))
     }
 
@@ -103,12 +113,12 @@ impl Session<'_> {
         self.out.add_made(error);
         self.holds = false;
         self.is_owing = false;
-        self.lost = Some(match message[0] {
+        self.refuse_until = Some(match message[0] {
             b'Q' | b'F' | b'S' => {
                 self.add_failed();
-                Lost::Transaction
+                RefuseUntil::Rollback
             }
-            _ => Lost::Exchange,
+            _ => RefuseUntil::Sync,
         });
     }
 }

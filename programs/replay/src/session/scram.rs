@@ -23,14 +23,14 @@ const ITERATIONS: usize = 4096;
 const BINDING: &str = "p=tls-server-end-point";
 
 /// A password that clients are asked for.
-pub struct Login {
+pub struct ScramSecret {
     salt: [u8; 16],
     salted: [u8; 32],
 }
 
-impl Login {
-    pub fn new(password: &[u8]) -> Result<Login> {
-        let mut login = Login { salt: [0; 16], salted: [0; 32] };
+impl ScramSecret {
+    pub fn new(password: &[u8]) -> Result<ScramSecret> {
+        let mut login = ScramSecret { salt: [0; 16], salted: [0; 32] };
         rand_bytes(&mut login.salt)?;
         pbkdf2_hmac(password, &login.salt, ITERATIONS, MessageDigest::sha256(), &mut login.salted)?;
         Ok(login)
@@ -47,7 +47,7 @@ impl Login {
         let is_bound = initial.mechanism == BOUND;
         ensure!(is_bound || initial.mechanism == PLAIN, "a mechanism that isn't offered");
         let first = std::str::from_utf8(initial.response.unwrap_or_default().0)?;
-        let exchange = Exchange::new(first, is_bound, binding)?;
+        let exchange = ScramExchange::new(first, is_bound, binding)?;
         let server_first = exchange.server_first(&self.salt);
         ask_for(stream, Authentication::SaslContinue((&server_first).into())).await?;
         let body = answer(stream, &mut bytes).await?;
@@ -92,15 +92,15 @@ fn end_point(certificate: &[u8]) -> Result<Vec<u8>> {
 }
 
 /// What both sides have said.
-struct Exchange {
+struct ScramExchange {
     client_first: String,
     nonce: String,
     /// What the client has to repeat of the binding.
     binding: Vec<u8>,
 }
 
-impl Exchange {
-    fn new(first: &str, is_bound: bool, binding: Option<Vec<u8>>) -> Result<Exchange> {
+impl ScramExchange {
+    fn new(first: &str, is_bound: bool, binding: Option<Vec<u8>>) -> Result<ScramExchange> {
         let (flag, rest) = first.split_once(',').context("no channel binding is named")?;
         match flag {
             BINDING if is_bound => {}
@@ -118,7 +118,7 @@ impl Exchange {
         if is_bound {
             repeated.extend(binding.unwrap_or_default());
         }
-        Ok(Exchange {
+        Ok(ScramExchange {
             client_first: bare.to_owned(),
             nonce: format!("{theirs}{}", encode_block(&ours)),
             binding: repeated,
@@ -130,7 +130,7 @@ impl Exchange {
     }
 
     /// The last words where the client has proved that it knows the password.
-    fn server_last(&self, login: &Login, last: &str, server_first: &str) -> Result<String> {
+    fn server_last(&self, login: &ScramSecret, last: &str, server_first: &str) -> Result<String> {
         let (before, proof) = last.rsplit_once(",p=").context("no proof")?;
         let expected = format!("c={},r={}", encode_block(&self.binding), self.nonce);
         ensure!(before == expected, "another channel binding or nonce");
@@ -163,12 +163,12 @@ mod tests {
     /// The exchange of RFC 7677, section 3.
     #[test]
     fn the_example_of_the_standard() {
-        let mut login = Login { salt: [0; 16], salted: [0; 32] };
+        let mut login = ScramSecret { salt: [0; 16], salted: [0; 32] };
         let salt = decode_block("W22ZaJ0SNY7soEsUEjb6gQ==").expect("base64");
         login.salt.copy_from_slice(&salt[..16]);
         pbkdf2_hmac(b"pencil", &login.salt, ITERATIONS, MessageDigest::sha256(), &mut login.salted)
             .expect("a key");
-        let exchange = Exchange {
+        let exchange = ScramExchange {
             client_first: "n=user,r=rOprNGfwEbeRWgbNEkqO".to_owned(),
             nonce: "rOprNGfwEbeRWgbNEkqO%hvYDpWUa2RaTCAfuxFIlj)hNlF$k0".to_owned(),
             binding: b"n,,".to_vec(),

@@ -1,38 +1,41 @@
 //! What a client says.
 
-use super::{Run, Session, State};
-use crate::fingerprint::Ignored;
-use crate::pool::{Fit, Step};
-use crate::recorded::{is_state_of_standby, Changed, Cut, Cutter, Ending, Tape, What, HEAD};
-use crate::report::{Parting, Side};
+use super::{ByteComparison, ReplaySession, SessionPhase};
+use crate::fingerprint::IgnoredRequest;
+use crate::pool::{MatchedRequest, RequestMatch};
+use crate::recorded::{
+    is_state_of_standby, CompareBy, ConnectionEnding, MessageSlice, MessageSplitter, Recording,
+    RereadError, HEAD,
+};
+use crate::report::{Difference, ReportedMessage};
 use pgmsg::backend::{Message, TransactionStatus};
 use pgmsg::List;
 
 /// How many messages of a connection are read to see whether a client can follow it from there on.
 const FOLLOWED_MOST: u32 = 32;
 
-impl Session<'_> {
+impl ReplaySession<'_> {
     /// Takes bytes, message by message, until the session ends.
-    pub(super) fn take(&mut self, mut bytes: &[u8]) -> Result<(), Changed> {
-        if self.state == State::HangingUp && !bytes.is_empty() {
-            self.state = State::Ending;
+    pub(super) fn take(&mut self, mut bytes: &[u8]) -> Result<(), RereadError> {
+        if self.phase == SessionPhase::HangingUp && !bytes.is_empty() {
+            self.phase = SessionPhase::Ending;
         }
-        let mut cutter = std::mem::replace(&mut self.cutter, Cutter::of_client());
-        while self.state == State::Serving {
-            match cutter.cut(&mut bytes) {
+        let mut splitter = std::mem::replace(&mut self.splitter, MessageSplitter::of_client());
+        while self.phase == SessionPhase::Serving {
+            match splitter.cut(&mut bytes) {
                 Ok(None) => break,
-                Ok(Some(Cut::Whole(message))) => self.take_message(message)?,
-                Ok(Some(Cut::Part(part, left))) => self.take_part(part, left)?,
-                Err(why) => self.differ(Side::Words(why.to_string())),
+                Ok(Some(MessageSlice::Whole(message))) => self.take_message(message)?,
+                Ok(Some(MessageSlice::Part(part, left))) => self.take_part(part, left)?,
+                Err(why) => self.differ(ReportedMessage::Words(why.to_string())),
             }
         }
-        self.cutter = cutter;
+        self.splitter = splitter;
         Ok(())
     }
 
-    fn take_message(&mut self, message: &[u8]) -> Result<(), Changed> {
-        if let Some(lost) = self.lost {
-            return self.take_lost(lost, message);
+    fn take_message(&mut self, message: &[u8]) -> Result<(), RereadError> {
+        if let Some(refuse_until) = self.refuse_until {
+            return self.take_refused(refuse_until, message);
         }
         match message[0] {
             // Answers don't wait for a Flush, and no password is asked for any more.
@@ -43,65 +46,70 @@ impl Session<'_> {
             b'X' => self.take_terminate(message),
             b'd' if self.is_both && is_state_of_standby(&message[HEAD..]) => Ok(()),
             b'd' => self.take_bytes(message, 0, message.len()),
-            _ => match self.end_run(message)? {
-                true => self.take_form(message),
+            _ => match self.end_comparison(message)? {
+                true => self.take_by_fingerprint(message),
                 false => Ok(()),
             },
         }
     }
 
-    /// Takes a message that is compared by its form.
-    fn take_form(&mut self, message: &[u8]) -> Result<(), Changed> {
+    /// Takes a message that is compared by its fingerprint.
+    fn take_by_fingerprint(&mut self, message: &[u8]) -> Result<(), RereadError> {
         self.ends_run = !matches!(message[0], b'P' | b'B' | b'D' | b'E' | b'C');
-        let known = self.known_form(message)?;
-        let form = match known {
-            Some(form) => form,
-            None => self.form_of(message)?,
+        let known = self.known_fingerprint(message)?;
+        let fingerprint = match known {
+            Some(fingerprint) => fingerprint,
+            None => self.fingerprint_of(message)?,
         };
         // The Sync may be that of what was said before.
-        let is_end =
-            self.is_end_of_ignored(message) && !self.shared.pool().goes_on_with(self.seat, form);
+        let is_end = self.is_end_of_ignored(message)
+            && !self.shared.pool().goes_on_with(self.slot, fingerprint);
         let step = match is_end {
-            true => Step::Differs(None),
-            false => self.shared.pool().step(self.seat, form)?,
+            true => RequestMatch::Differs(None),
+            false => self.shared.pool().step(self.slot, fingerprint)?,
         };
         match (known, step) {
-            (None, _) => self.answer(step, form, message),
-            (Some(_), Step::Fits(fit)) if self.next == Some(fit.said) => {
+            (None, _) => self.answer(step, fingerprint, message),
+            (Some(_), RequestMatch::Fits(fit)) if self.next == Some(fit.request) => {
                 self.fit(fit);
                 Ok(())
             }
             (Some(_), _) => {
-                self.form_of(message)?;
-                self.answer(step, form, message)
+                self.fingerprint_of(message)?;
+                self.answer(step, fingerprint, message)
             }
         }
     }
 
-    /// Answers a message of a form, which was made of it.
-    fn answer(&mut self, step: Step, form: u32, message: &[u8]) -> Result<(), Changed> {
+    /// Answers a message with a fingerprint, which was made of it.
+    fn answer(
+        &mut self,
+        step: RequestMatch,
+        fingerprint: u32,
+        message: &[u8],
+    ) -> Result<(), RereadError> {
         match step {
-            Step::Fits(fit) => {
-                self.follow(fit.said, message)?;
-                self.former.settle(form);
+            RequestMatch::Fits(fit) => {
+                self.follow(fit.request, message)?;
+                self.fingerprinter.settle(fingerprint);
                 self.fit(fit);
             }
-            Step::Prepares(said) => {
-                let rival = self.shared.pool().rival_of_preparing(said);
-                if !self.passes(said, rival) {
+            RequestMatch::Prepares(request) => {
+                let rival = self.shared.pool().rival_of_preparing(request);
+                if !self.passes(request, rival) {
                     return Ok(());
                 }
-                self.out.add(&self.shared.tape, said, self.heard_at);
-                self.former.settle(form);
+                self.out.add(&self.shared.recording, request, self.heard_at);
+                self.fingerprinter.settle(fingerprint);
                 self.is_ignoring = true;
                 self.holds = false;
             }
-            Step::Differs(_)
-                if self.is_end_of_ignored(message) || self.former.ignored().is_some() =>
+            RequestMatch::Differs(_)
+                if self.is_end_of_ignored(message) || self.fingerprinter.ignored().is_some() =>
             {
-                self.ignore(form)
+                self.ignore(fingerprint)
             }
-            Step::Differs(_) => self.take_other(message)?,
+            RequestMatch::Differs(_) => self.take_other(message)?,
         }
         Ok(())
     }
@@ -110,61 +118,64 @@ impl Session<'_> {
         message[0] == b'S' && self.is_ignoring
     }
 
-    /// The form of the message that was recorded next, where this is the very one: all names stand for the same then.
-    fn known_form(&mut self, message: &[u8]) -> Result<Option<u32>, Changed> {
-        let tape = &self.shared.tape;
-        let next = self.next.filter(|it| *it < tape.script.len());
-        match next.map(|it| (it, tape.script.what(it))) {
-            Some((next, What::Form(form))) => {
-                let is_recorded = tape.is_recorded(next, message, &mut self.out.window)?;
-                Ok(is_recorded.then_some(form))
+    /// The fingerprint of the message that was recorded next, where this is the very one: all names stand for the same then.
+    fn known_fingerprint(&mut self, message: &[u8]) -> Result<Option<u32>, RereadError> {
+        let recording = &self.shared.recording;
+        let next = self.next.filter(|it| *it < recording.requests.len());
+        match next.map(|it| (it, recording.requests.compare_by(it))) {
+            Some((next, CompareBy::Fingerprint(fingerprint))) => {
+                let is_recorded = recording.is_recorded(next, message, &mut self.out.window)?;
+                Ok(is_recorded.then_some(fingerprint))
             }
             _ => Ok(None),
         }
     }
 
-    /// The form of a message that isn't the one which was recorded next.
-    pub(super) fn form_of(&mut self, message: &[u8]) -> Result<u32, Changed> {
+    /// The fingerprint of a message that isn't the one which was recorded next.
+    pub(super) fn fingerprint_of(&mut self, message: &[u8]) -> Result<u32, RereadError> {
         let shared = self.shared;
         if let Some(next) = self.next.take() {
-            self.former = shared.tape.former_at(next, &shared.rules)?;
+            self.fingerprinter = shared.recording.fingerprinter_at(next, &shared.rules)?;
         }
-        Ok(shared.tape.forms.find(self.former.message(Some(message[0]), &message[HEAD..])))
+        Ok(shared
+            .recording
+            .fingerprints
+            .find(self.fingerprinter.message(Some(message[0]), &message[HEAD..])))
     }
 
     /// Follows another connection, of which the client has said a message early on: where it is the very one, and names stand
     /// for the same there.
-    fn follow(&mut self, said: usize, message: &[u8]) -> Result<(), Changed> {
-        let (tape, rules) = (&self.shared.tape, &self.shared.rules);
-        let follows = tape.script.number(said) <= FOLLOWED_MOST
-            && tape.is_recorded(said, message, &mut self.out.window)?
-            && tape.former_at(said, rules)?.has_names_of(&self.former);
-        self.next = Some(said).filter(|_| follows);
+    fn follow(&mut self, request: usize, message: &[u8]) -> Result<(), RereadError> {
+        let (recording, rules) = (&self.shared.recording, &self.shared.rules);
+        let follows = recording.requests.number(request) <= FOLLOWED_MOST
+            && recording.is_recorded(request, message, &mut self.out.window)?
+            && recording.fingerprinter_at(request, rules)?.has_names_of(&self.fingerprinter);
+        self.next = Some(request).filter(|_| follows);
         Ok(())
     }
 
     /// Answers what fits.
-    pub(super) fn fit(&mut self, fit: Fit) {
-        if !self.passes(fit.said, fit.rival) {
+    pub(super) fn fit(&mut self, fit: MatchedRequest) {
+        if !self.passes(fit.request, fit.rival) {
             return;
         }
-        self.next = self.next.filter(|it| *it == fit.said).map(|it| it + 1);
-        let said = &self.shared.tape.script.said[fit.said];
-        self.out.add(&self.shared.tape, fit.said, self.heard_at);
-        self.is_owing = said.goes_on && !fit.is_turn_over;
-        self.holds = said.goes_on && !self.ends_run;
-        self.is_both |= said.opens_both;
+        self.next = self.next.filter(|it| *it == fit.request).map(|it| it + 1);
+        let request = &self.shared.recording.requests.list[fit.request];
+        self.out.add(&self.shared.recording, fit.request, self.heard_at);
+        self.is_owing = request.goes_on && !fit.is_turn_over;
+        self.holds = request.goes_on && !self.ends_run;
+        self.is_both |= request.opens_both;
         self.is_in_transaction = !fit.is_idle;
         self.is_ignoring = false;
         if fit.is_idle {
             self.is_both = false;
-            self.former.end_transaction();
+            self.fingerprinter.end_transaction();
         }
-        if said.is_cause {
+        if request.is_cause {
             self.shared.stirred.notify_waiters();
         }
         if fit.hangs_up {
-            self.state = State::HangingUp;
+            self.phase = SessionPhase::HangingUp;
         }
         if fit.is_cut {
             self.differ_at_cut();
@@ -172,27 +183,28 @@ impl Session<'_> {
     }
 
     /// Answers what the rules let a client say though it isn't recorded.
-    fn ignore(&mut self, form: u32) {
+    fn ignore(&mut self, fingerprint: u32) {
         let ready = Message::ReadyForQuery(match self.is_in_transaction {
             true => TransactionStatus::InTransaction,
             false => TransactionStatus::Idle,
         });
-        let messages = match self.former.ignored() {
+        let messages = match self.fingerprinter.ignored() {
             None => vec![ready],
-            Some(Ignored::Query(tag)) => vec![Message::CommandComplete(tag.into()), ready],
-            Some(Ignored::Execute(tag)) => vec![Message::CommandComplete(tag.into())],
-            Some(Ignored::Parse) => vec![Message::ParseComplete],
-            Some(Ignored::Bind) => vec![Message::BindComplete],
-            Some(Ignored::Close) => vec![Message::CloseComplete],
-            Some(Ignored::Describe { is_statement: true }) => {
+            Some(IgnoredRequest::Query(tag)) => vec![Message::CommandComplete(tag.into()), ready],
+            Some(IgnoredRequest::Execute(tag)) => vec![Message::CommandComplete(tag.into())],
+            Some(IgnoredRequest::Parse) => vec![Message::ParseComplete],
+            Some(IgnoredRequest::Bind) => vec![Message::BindComplete],
+            Some(IgnoredRequest::Close) => vec![Message::CloseComplete],
+            Some(IgnoredRequest::Describe { is_statement: true }) => {
                 vec![Message::ParameterDescription(List::default()), Message::NoData]
             }
-            Some(Ignored::Describe { is_statement: false }) => vec![Message::NoData],
+            Some(IgnoredRequest::Describe { is_statement: false }) => vec![Message::NoData],
         };
         let mut answer = Vec::new();
         let written = messages.iter().try_for_each(|it| it.write(&mut answer));
-        self.is_ignoring = !matches!(self.former.ignored(), None | Some(Ignored::Query(_)));
-        self.former.settle(form);
+        self.is_ignoring =
+            !matches!(self.fingerprinter.ignored(), None | Some(IgnoredRequest::Query(_)));
+        self.fingerprinter.settle(fingerprint);
         if written.is_ok() {
             self.out.add_made(answer);
             self.holds &= !self.ends_run;
@@ -200,42 +212,46 @@ impl Session<'_> {
     }
 
     /// Takes a part of a message that is too long to be held.
-    fn take_part(&mut self, part: &[u8], left: usize) -> Result<(), Changed> {
+    fn take_part(&mut self, part: &[u8], left: usize) -> Result<(), RereadError> {
         let begun = self.long;
         self.long = if left > 0 { begun + part.len() } else { 0 };
         self.take_bytes(part, begun, begun + part.len() + left)
     }
 
     /// Compares bytes from a place on in a message of a length with the recorded ones.
-    fn take_bytes(&mut self, bytes: &[u8], from: usize, length: usize) -> Result<(), Changed> {
+    fn take_bytes(&mut self, bytes: &[u8], from: usize, length: usize) -> Result<(), RereadError> {
         let shared = self.shared;
-        if self.run.is_none() {
-            let Some(said) = shared.pool().begin_bytes(self.seat) else {
-                self.differ(Side::bytes(bytes, length));
+        if self.comparison.is_none() {
+            let Some(request) = shared.pool().begin_bytes(self.slot) else {
+                self.differ(ReportedMessage::bytes(bytes, length));
                 return Ok(());
             };
-            self.run =
-                Run::of(&shared.tape, said).map(|run| Run { is_data: bytes[0] == b'd', ..run });
+            self.comparison = ByteComparison::of(&shared.recording, request)
+                .map(|comparison| ByteComparison { is_data: bytes[0] == b'd', ..comparison });
         }
-        let Some(run) = self.run.as_mut() else {
+        let Some(comparison) = self.comparison.as_mut() else {
             return Ok(());
         };
         if from == 0 {
-            run.begins = run.reader.place();
+            comparison.begins = comparison.reader.place();
         }
-        let passed = run.passed();
-        if let Some(at) = compare(run, &shared.tape, bytes)? {
-            let other = shared.pool().choose_bytes(self.seat, passed, bytes)?;
-            if let Some(mut other) = other.and_then(|said| Run::of(&shared.tape, said)) {
-                other.skip(&shared.tape, passed)?;
+        let passed = comparison.passed();
+        if let Some(at) = compare(comparison, &shared.recording, bytes)? {
+            let other = shared.pool().choose_bytes(self.slot, passed, bytes)?;
+            if let Some(mut other) =
+                other.and_then(|request| ByteComparison::of(&shared.recording, request))
+            {
+                other.skip(&shared.recording, passed)?;
                 other.begins = other.reader.place();
-                self.run = Some(other);
+                self.comparison = Some(other);
                 return self.take_bytes(bytes, from, length);
             }
             return self.differ_in_bytes(bytes, from, at, length);
         }
-        if run.left == 0 && (!run.is_data || !shared.tape.heard_of(run.said).is_empty()) {
-            self.finish_run();
+        if comparison.left == 0
+            && (!comparison.is_data || !shared.recording.answer_of(comparison.request).is_empty())
+        {
+            self.finish_comparison();
         }
         Ok(())
     }
@@ -246,79 +262,87 @@ impl Session<'_> {
         from: usize,
         at: usize,
         length: usize,
-    ) -> Result<(), Changed> {
-        let begins = self.run.as_ref().map(|it| it.begins).unwrap_or_default();
-        let recorded = Side::read(self.shared.tape.message_at(begins, HEAD)?);
-        let received = if from == 0 { Side::bytes(bytes, length) } else { recorded.clone() };
+    ) -> Result<(), RereadError> {
+        let begins = self.comparison.as_ref().map(|it| it.begins).unwrap_or_default();
+        let recorded = ReportedMessage::read(self.shared.recording.message_at(begins, HEAD)?);
+        let received =
+            if from == 0 { ReportedMessage::bytes(bytes, length) } else { recorded.clone() };
         let name = if bytes[0] == b'd' || from > 0 { "the data" } else { "the body" };
-        let part = (from + at >= HEAD).then(|| Parting::at(name, from + at));
+        let part = (from + at >= HEAD).then(|| Difference::at(name, from + at));
         self.differ_from(&recorded, &received, part);
         Ok(())
     }
 
-    fn finish_run(&mut self) {
-        self.run = None;
-        let fit = self.shared.pool().end_bytes(self.seat);
+    fn finish_comparison(&mut self) {
+        self.comparison = None;
+        let fit = self.shared.pool().end_bytes(self.slot);
         self.fit(fit);
     }
 
     /// Ends data before a message. False where they aren't over, and the session is at its end.
-    fn end_run(&mut self, message: &[u8]) -> Result<bool, Changed> {
-        let Some(run) = &self.run else {
+    fn end_comparison(&mut self, message: &[u8]) -> Result<bool, RereadError> {
+        let Some(comparison) = &self.comparison else {
             return Ok(true);
         };
-        let is_over = run.left == 0
-            || self.shared.pool().choose_bytes(self.seat, run.passed(), &[])?.is_some();
+        let is_over = comparison.left == 0
+            || self.shared.pool().choose_bytes(self.slot, comparison.passed(), &[])?.is_some();
         match is_over {
-            true => self.finish_run(),
-            false => self.differ(Side::message(message)),
+            true => self.finish_comparison(),
+            false => self.differ(ReportedMessage::message(message)),
         }
-        Ok(is_over && self.state == State::Serving)
+        Ok(is_over && self.phase == SessionPhase::Serving)
     }
 
-    fn take_terminate(&mut self, message: &[u8]) -> Result<(), Changed> {
-        if !self.end_run(message)? {
+    fn take_terminate(&mut self, message: &[u8]) -> Result<(), RereadError> {
+        if !self.end_comparison(message)? {
             return Ok(());
         }
-        let expected = self.shared.pool().expected(self.seat);
-        match expected.said.filter(|_| expected.is_sure) {
+        let expected = self.shared.pool().expected(self.slot);
+        match expected.request.filter(|_| expected.is_sure) {
             Some(_) => {
                 self.is_leaving = true;
-                self.differ(Side::message(message));
+                self.differ(ReportedMessage::message(message));
             }
-            None => self.state = State::Ending,
+            None => self.phase = SessionPhase::Ending,
         }
         Ok(())
     }
 
     /// Takes the end of what the client sends.
-    pub(super) fn end_of_client(&mut self) -> Result<(), Changed> {
-        if self.run.as_ref().map_or(false, |it| it.left == 0) {
-            self.finish_run();
+    pub(super) fn end_of_client(&mut self) -> Result<(), RereadError> {
+        if self.comparison.as_ref().map_or(false, |it| it.left == 0) {
+            self.finish_comparison();
         }
-        if self.state != State::Serving || self.lost.is_some() {
-            self.state = State::Ending;
+        if self.phase != SessionPhase::Serving || self.refuse_until.is_some() {
+            self.phase = SessionPhase::Ending;
             return Ok(());
         }
         self.is_leaving = true;
-        let expected = self.shared.pool().expected(self.seat);
-        let is_owing = expected.said.is_some() && expected.is_sure;
-        if is_owing || expected.ending == Ending::Terminate || self.cutter.is_within() {
-            self.differ(Side::Words("the connection ended".to_owned()));
+        let expected = self.shared.pool().expected(self.slot);
+        let is_owing = expected.request.is_some() && expected.is_sure;
+        if is_owing || expected.ending == ConnectionEnding::Terminate || self.splitter.is_within() {
+            self.differ(ReportedMessage::Words("the connection ended".to_owned()));
         }
-        self.state = State::Ending;
+        self.phase = SessionPhase::Ending;
         Ok(())
     }
 }
 
-impl Run {
+impl ByteComparison {
     /// The comparison of bytes that begins with a message, where it is compared so.
-    fn of(tape: &Tape, said: usize) -> Option<Run> {
-        let What::Bytes(len) = tape.script.what(said) else {
+    fn of(recording: &Recording, request: usize) -> Option<ByteComparison> {
+        let CompareBy::Bytes(len) = recording.requests.compare_by(request) else {
             return None;
         };
-        let reader = tape.reader(said);
-        Some(Run { said, begins: reader.place(), reader, len, left: len, is_data: true })
+        let reader = recording.reader(request);
+        Some(ByteComparison {
+            request,
+            begins: reader.place(),
+            reader,
+            len,
+            left: len,
+            is_data: true,
+        })
     }
 
     /// How many of the bytes came.
@@ -327,10 +351,10 @@ impl Run {
     }
 
     /// Passes over bytes that came.
-    fn skip(&mut self, tape: &Tape, count: u64) -> Result<(), Changed> {
+    fn skip(&mut self, recording: &Recording, count: u64) -> Result<(), RereadError> {
         let mut left = count;
         while left > 0 {
-            let next = (self.reader.next(tape)?.len() as u64).min(left);
+            let next = (self.reader.next(recording)?.len() as u64).min(left);
             self.reader.pass(next as usize);
             left -= next.max(1);
         }
@@ -340,19 +364,23 @@ impl Run {
 }
 
 /// Compares bytes with those that were recorded. Answers where they differ first.
-fn compare(run: &mut Run, tape: &Tape, mut bytes: &[u8]) -> Result<Option<usize>, Changed> {
+fn compare(
+    comparison: &mut ByteComparison,
+    recording: &Recording,
+    mut bytes: &[u8],
+) -> Result<Option<usize>, RereadError> {
     let mut at = 0;
     while !bytes.is_empty() {
-        let next = run.reader.next(tape)?;
+        let next = comparison.reader.next(recording)?;
         let count =
-            next.len().min(bytes.len()).min(usize::try_from(run.left).unwrap_or(usize::MAX));
+            next.len().min(bytes.len()).min(usize::try_from(comparison.left).unwrap_or(usize::MAX));
         if count == 0 || next[..count] != bytes[..count] {
             let same =
                 next.iter().zip(bytes).take(count).take_while(|(one, other)| one == other).count();
             return Ok(Some(at + same));
         }
-        run.reader.pass(count);
-        run.left -= count as u64;
+        comparison.reader.pass(count);
+        comparison.left -= count as u64;
         bytes = &bytes[count..];
         at += count;
     }
