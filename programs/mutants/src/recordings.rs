@@ -6,20 +6,20 @@ use recording::{put_record, RecordKind, Side};
 impl Mutants {
     /// A recording of up to three connections, which may be changed itself.
     pub fn recording(&mut self) -> Vec<u8> {
-        let mut tape = b"PGMSGREC\0\0\0\x01\0\0\0\0\0\0\0\0".to_vec();
-        tape.extend_from_slice(&crc32fast::hash(&tape).to_be_bytes());
+        let mut recording = b"PGMSGREC\0\0\0\x01\0\0\0\0\0\0\0\0".to_vec();
+        recording.extend_from_slice(&crc32fast::hash(&recording).to_be_bytes());
         for connection in 1..=1 + self.below(3) as u32 {
-            self.add_connection(&mut tape, connection);
+            self.add_connection(&mut recording, connection);
         }
         match self.below(20) {
-            0 => self.mutated(tape),
-            _ => tape,
+            0 => self.mutated(recording),
+            _ => recording,
         }
     }
 
-    fn add_connection(&mut self, tape: &mut Vec<u8>, connection: u32) {
+    fn add_connection(&mut self, recording: &mut Vec<u8>, connection: u32) {
         let mut add = |kind, time, content: &[u8]| {
-            put_record(tape, kind, connection, time, content, crc32fast::hash(content))
+            put_record(recording, kind, connection, time, content, crc32fast::hash(content))
         };
         add(RecordKind::Opened, 0, b"");
         let first = if self.below(10) > 0 { STARTUP.to_vec() } else { self.first_bytes() };

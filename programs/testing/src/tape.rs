@@ -77,8 +77,8 @@ impl Options {
         arguments.extend(words(&["--go-on", "--strict"]));
         arguments.extend(self.arguments);
         arguments.push(path.clone().into());
-        let work = Work::Replay { is_whole: self.is_whole };
-        Tape::start("pg_replay", &arguments, path, work)
+        let mode = TapeMode::Replay { is_whole: self.is_whole };
+        Tape::start("pg_replay", &arguments, path, mode)
     }
 
     /// Replays a recording, and records by the server what isn't in it, or all where there is no recording yet. The new
@@ -90,7 +90,7 @@ impl Options {
         arguments.extend(self.address());
         arguments.extend(self.arguments);
         arguments.push(path.clone().into());
-        Tape::start("pg_replay", &arguments, path, Work::Renew)
+        Tape::start("pg_replay", &arguments, path, TapeMode::Renew)
     }
 
     /// Makes a recording anew. It takes the place of an old one once the tape is finished.
@@ -102,7 +102,7 @@ impl Options {
         let new = Builder::new().prefix(&name).tempfile_in(folder(&path)?)?.into_temp_path();
         let mut arguments: Vec<OsString> = self.address().collect();
         arguments.extend(["-o".into(), new.as_os_str().to_owned()]);
-        Tape::start("pg_record", &arguments, path, Work::Record(new))
+        Tape::start("pg_record", &arguments, path, TapeMode::Record(new))
     }
 
     /// The words that name the server.
@@ -124,11 +124,11 @@ pub struct Tape {
     path: PathBuf,
     program: Program,
     /// None once it is over.
-    work: Option<Work>,
+    mode: Option<TapeMode>,
 }
 
 #[derive(Debug)]
-enum Work {
+enum TapeMode {
     /// The new recording, until it takes the place of the old one.
     Record(TempPath),
     Renew,
@@ -142,10 +142,10 @@ impl Tape {
         name: &'static str,
         arguments: &[OsString],
         path: PathBuf,
-        work: Work,
+        mode: TapeMode,
     ) -> Result<Tape, Error> {
         let program = Program::start(name, arguments)?;
-        Ok(Tape { path, program, work: Some(work) })
+        Ok(Tape { path, program, mode: Some(mode) })
     }
 
     /// The host that clients connect to.
@@ -160,7 +160,7 @@ impl Tape {
 
     /// Whether the recording is being made.
     pub fn is_recorded(&self) -> bool {
-        matches!(self.work, Some(Work::Record(_)))
+        matches!(self.mode, Some(TapeMode::Record(_)))
     }
 
     /// What pg_replay has reported so far: nothing where no client differed, or where the recording is being made.
@@ -178,11 +178,11 @@ impl Tape {
     }
 
     fn close(&mut self) -> Result<(), Error> {
-        match self.work.take() {
+        match self.mode.take() {
             None => Ok(()),
-            Some(Work::Record(new)) => self.close_recording(new),
-            Some(Work::Renew) => self.close_renewal(),
-            Some(Work::Replay { is_whole }) => self.close_replay(is_whole),
+            Some(TapeMode::Record(new)) => self.close_recording(new),
+            Some(TapeMode::Renew) => self.close_renewal(),
+            Some(TapeMode::Replay { is_whole }) => self.close_replay(is_whole),
         }
     }
 
@@ -226,7 +226,7 @@ impl Tape {
 
 impl Drop for Tape {
     fn drop(&mut self) {
-        let is_made = matches!(self.work, Some(Work::Record(_) | Work::Renew));
+        let is_made = matches!(self.mode, Some(TapeMode::Record(_) | TapeMode::Renew));
         if thread::panicking() && is_made {
             // A test that failed leaves the old recording.
             let _ = self.program.kill();
