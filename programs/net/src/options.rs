@@ -1,6 +1,6 @@
 //! Options that programs share.
 
-use crate::roots::SYSTEM;
+use crate::ssl_mode::SYSTEM;
 use crate::{Address, ExitStatus, Failure, Listener, ServerTls, SslMode, Upstream, Workers};
 use clap::{Args, ValueEnum};
 use std::env;

@@ -1,6 +1,6 @@
 //! Connections to a server.
 
-use crate::roots::connector;
+use crate::ssl_mode::connector;
 use crate::stream::tune;
 use crate::{Address, ExitStatus, Failure, SslMode, Stream};
 use anyhow::{bail, Context, Result};

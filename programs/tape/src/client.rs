@@ -1,11 +1,11 @@
 //! A client's messages with their fields.
 
+use crate::conversions::{format_list, formats, json_bytes, list, other, values};
 use crate::fields::{
     kinds, BindFields, CopyFailFields, DataFields, ExecuteFields, FunctionCallFields, KeyFields,
     NoFields, OtherFields, ParseFields, PasswordFields, QueryFields, SaslInitialFields,
     SettingFields, StartupFields, TargetFields, TargetKind,
 };
-use crate::parts::{format_list, formats, json_bytes, list, other, values};
 use pgmsg::frontend::{self, Message, PasswordMessage, SaslInitialResponse};
 use pgmsg::{ByteStr, Format, List, Refusal, Secret};
 

@@ -1,12 +1,12 @@
 //! The lines of a recording as JSON: what each says, and how one is written.
 
 use crate::client::ClientMessage;
+use crate::conversions::untyped;
 use crate::event::{Event, EventKind, RawMessage};
 use crate::fields::{NoFields, OtherFields, Tag};
 use crate::json::put_json;
 use crate::json_bytes::JsonBytes;
 use crate::layout::MessageLayout;
-use crate::parts::untyped;
 use crate::server::ServerMessage;
 use recording::Side;
 use serde::{Deserialize, Serialize};

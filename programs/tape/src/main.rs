@@ -2,6 +2,7 @@
 #![forbid(unsafe_code)]
 
 mod client;
+mod conversions;
 mod diff;
 #[cfg(test)]
 mod edits;
@@ -24,7 +25,6 @@ mod mutants;
 mod options;
 mod output;
 mod parse;
-mod parts;
 mod progress;
 mod record_assembler;
 mod recording_file;

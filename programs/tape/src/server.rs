@@ -1,5 +1,6 @@
 //! A server's messages with their fields.
 
+use crate::conversions::{format_list, formats, json_bytes, list, other, values};
 use crate::error_fields::ErrorFields;
 use crate::fields::{
     kinds, AuthenticationFields, ColumnFields, ColumnsFields, CommandFields, CopyFields,
@@ -8,7 +9,6 @@ use crate::fields::{
     StatusLetter, TypesFields,
 };
 use crate::json_bytes::JsonBytes;
-use crate::parts::{format_list, formats, json_bytes, list, other, values};
 use pgmsg::backend::{self, Authentication, CopyResponse, Message, TransactionStatus};
 use pgmsg::{ByteStr, Format, List, Refusal, Secret};
 use std::borrow::Cow;

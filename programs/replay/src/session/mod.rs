@@ -1,12 +1,12 @@
 //! A client, and what it is answered.
 
 mod greeting;
+mod incoming;
 mod passing;
 mod recorder;
 mod recovery;
 mod scram;
 mod send_queue;
-mod take;
 
 pub use greeting::greet;
 pub use recorder::SessionRecorder;
