@@ -33,7 +33,7 @@ struct PrinterOutput {
     held: usize,
 }
 
-/// A direction of a connection.
+/// How far a direction of a connection is printed.
 struct PrintState {
     side: Side,
     decoder: Decoder,

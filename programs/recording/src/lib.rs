@@ -48,14 +48,14 @@
 //! of turn, or isn't open. Nothing after a fault is read.
 #![forbid(unsafe_code)]
 
-mod identity;
+mod connection_identity;
 mod open_connections;
 mod partial_file;
 mod reader;
 mod recorder;
 mod writer;
 
-pub use identity::Identity;
+pub use connection_identity::ConnectionIdentity;
 pub use open_connections::OpenConnections;
 pub use partial_file::{unnamed_file, PartialFile, PersistError};
 pub use reader::{Damage, Reader, Record};

@@ -15,12 +15,12 @@ use std::time::{Instant, SystemTime, UNIX_EPOCH};
 /// it find theirs written. What is written is in the file, also where the process is killed right after.
 pub struct Recorder {
     begun: Instant,
-    queue: Mutex<Unwritten>,
+    queue: Mutex<PendingRecords>,
     out: Mutex<AppendFile>,
 }
 
 /// What isn't written yet.
-struct Unwritten {
+struct PendingRecords {
     bytes: Vec<u8>,
     /// How many bytes have been added, those of the file among them.
     added: u64,
@@ -74,7 +74,7 @@ impl Recorder {
         let head = file_head(now.as_micros() as u64);
         file.write_all(&head)?;
         let begun = HEAD as u64;
-        let queue = Unwritten { bytes: Vec::new(), added: begun };
+        let queue = PendingRecords { bytes: Vec::new(), added: begun };
         let out = AppendFile { file, spare: Vec::new(), written: begun, is_closed: false };
         Ok(Recorder { begun: Instant::now(), queue: Mutex::new(queue), out: Mutex::new(out) })
     }

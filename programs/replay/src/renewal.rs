@@ -5,7 +5,7 @@ use anyhow::anyhow;
 use net::{ExitStatus, Failure, StderrWriter, Stream, Upstream};
 use pg_record::{Link, LinkError, RecordSink, RecordingOutput};
 use recording::{
-    unnamed_file, Damage, Identity, PartialFile, PersistError, Reader, RecordKind, Writer,
+    unnamed_file, ConnectionIdentity, Damage, PartialFile, PersistError, Reader, RecordKind, Writer,
 };
 use std::collections::{HashMap, HashSet};
 use std::fs::{File, OpenOptions};
@@ -178,7 +178,7 @@ impl Renewal {
 
     /// The numbers that some sessions have in the recording now: one each, where a session is in it twice.
     fn find(&self, sessions: &HashSet<u64>) -> Result<HashSet<u32>, Damage> {
-        let (mut reader, mut all) = (open(&self.path)?, HashMap::<u32, Identity>::new());
+        let (mut reader, mut all) = (open(&self.path)?, HashMap::<u32, ConnectionIdentity>::new());
         let begun = reader.begun();
         while let Some(record) = reader.read()? {
             all.entry(record.connection).or_default().add(begun, &record);

@@ -84,12 +84,12 @@ message_fields! {
     MechanismsFields { mechanisms: Vec<JsonBytes<'a>>, }
     SaltFields { salt: JsonBytes<'a>, }
     AuthenticationFields { method: u32, data: JsonBytes<'a>, }
-    CommandFields { command: JsonBytes<'a>, }
-    RowFields { values: Values<'a>, }
+    CommandCompleteFields { command: JsonBytes<'a>, }
+    DataRowFields { values: Values<'a>, }
     FunctionResultFields { value: Option<JsonBytes<'a>>, }
     NegotiationFields { minor: u16, options: Vec<JsonBytes<'a>>, }
     NotificationFields { process_id: u32, channel: JsonBytes<'a>, payload: JsonBytes<'a>, }
-    ColumnsFields { columns: Vec<ColumnFields<'a>>, }
+    RowDescriptionFields { columns: Vec<ColumnFields<'a>>, }
     #[serde(rename = "Column")]
     ColumnFields {
         name: JsonBytes<'a>,
@@ -111,20 +111,20 @@ pub struct NoFields {}
 
 #[derive(Debug, PartialEq, Serialize, Deserialize)]
 #[serde(deny_unknown_fields)]
-pub struct CopyFields {
+pub struct CopyResponseFields {
     pub format: i8,
     pub columns: Vec<i16>,
 }
 
 #[derive(Debug, PartialEq, Serialize, Deserialize)]
 #[serde(deny_unknown_fields)]
-pub struct TypesFields {
+pub struct ParameterDescriptionFields {
     pub types: Vec<u32>,
 }
 
 #[derive(Debug, PartialEq, Serialize, Deserialize)]
 #[serde(deny_unknown_fields)]
-pub struct ReadyFields {
+pub struct ReadyForQueryFields {
     pub status: StatusLetter,
 }
 

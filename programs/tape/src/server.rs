@@ -3,10 +3,10 @@
 use crate::conversions::{format_list, formats, json_bytes, list, other, values};
 use crate::error_fields::ErrorFields;
 use crate::fields::{
-    kinds, AuthenticationFields, ColumnFields, ColumnsFields, CommandFields, CopyFields,
-    DataFields, FunctionResultFields, KeyFields, MechanismsFields, NegotiationFields, NoFields,
-    NotificationFields, OtherFields, ReadyFields, RowFields, SaltFields, SettingFields,
-    StatusLetter, TypesFields,
+    kinds, AuthenticationFields, ColumnFields, CommandCompleteFields, CopyResponseFields,
+    DataFields, DataRowFields, FunctionResultFields, KeyFields, MechanismsFields,
+    NegotiationFields, NoFields, NotificationFields, OtherFields, ParameterDescriptionFields,
+    ReadyForQueryFields, RowDescriptionFields, SaltFields, SettingFields, StatusLetter,
 };
 use crate::json_bytes::JsonBytes;
 use pgmsg::backend::{self, Authentication, CopyResponse, Message, TransactionStatus};
@@ -33,13 +33,13 @@ kinds! {
         BackendKeyData(KeyFields<'a>),
         BindComplete(NoFields),
         CloseComplete(NoFields),
-        CommandComplete(CommandFields<'a>),
+        CommandComplete(CommandCompleteFields<'a>),
         CopyData(DataFields<'a>),
         CopyDone(NoFields),
-        CopyInResponse(CopyFields),
-        CopyOutResponse(CopyFields),
-        CopyBothResponse(CopyFields),
-        DataRow(RowFields<'a>),
+        CopyInResponse(CopyResponseFields),
+        CopyOutResponse(CopyResponseFields),
+        CopyBothResponse(CopyResponseFields),
+        DataRow(DataRowFields<'a>),
         EmptyQueryResponse(NoFields),
         ErrorResponse(ResponseFields<'a>),
         FunctionCallResponse(FunctionResultFields<'a>),
@@ -47,12 +47,12 @@ kinds! {
         NoData(NoFields),
         NoticeResponse(ResponseFields<'a>),
         NotificationResponse(NotificationFields<'a>),
-        ParameterDescription(TypesFields),
+        ParameterDescription(ParameterDescriptionFields),
         ParameterStatus(SettingFields<'a>),
         ParseComplete(NoFields),
         PortalSuspended(NoFields),
-        ReadyForQuery(ReadyFields),
-        RowDescription(ColumnsFields<'a>),
+        ReadyForQuery(ReadyForQueryFields),
+        RowDescription(RowDescriptionFields<'a>),
         Other(OtherFields<'a>),
     }
 }
@@ -66,14 +66,14 @@ impl<'a> ServerMessage<'a> {
             Message::BindComplete => ServerMessage::BindComplete(NoFields {}),
             Message::CloseComplete => ServerMessage::CloseComplete(NoFields {}),
             Message::CommandComplete(it) => {
-                ServerMessage::CommandComplete(CommandFields { command: json_bytes(*it) })
+                ServerMessage::CommandComplete(CommandCompleteFields { command: json_bytes(*it) })
             }
             Message::CopyData(it) => ServerMessage::CopyData(DataFields { data: json_bytes(*it) }),
             Message::CopyDone => ServerMessage::CopyDone(NoFields {}),
             Message::CopyInResponse(it) => ServerMessage::CopyInResponse(copy_of(it)),
             Message::CopyOutResponse(it) => ServerMessage::CopyOutResponse(copy_of(it)),
             Message::CopyBothResponse(it) => ServerMessage::CopyBothResponse(copy_of(it)),
-            Message::DataRow(it) => ServerMessage::DataRow(RowFields { values: values(it) }),
+            Message::DataRow(it) => ServerMessage::DataRow(DataRowFields { values: values(it) }),
             Message::EmptyQueryResponse => ServerMessage::EmptyQueryResponse(NoFields {}),
             Message::ErrorResponse(it) => ServerMessage::ErrorResponse(response_of(it)?),
             Message::FunctionCallResponse(it) => ServerMessage::FunctionCallResponse(result_of(it)),
@@ -86,7 +86,9 @@ impl<'a> ServerMessage<'a> {
                 ServerMessage::NotificationResponse(notification_of(it))
             }
             Message::ParameterDescription(it) => {
-                ServerMessage::ParameterDescription(TypesFields { types: it.to_vec() })
+                ServerMessage::ParameterDescription(ParameterDescriptionFields {
+                    types: it.to_vec(),
+                })
             }
             Message::ParameterStatus(it) => ServerMessage::ParameterStatus(SettingFields {
                 name: json_bytes(it.name),
@@ -95,9 +97,9 @@ impl<'a> ServerMessage<'a> {
             Message::ParseComplete => ServerMessage::ParseComplete(NoFields {}),
             Message::PortalSuspended => ServerMessage::PortalSuspended(NoFields {}),
             Message::ReadyForQuery(it) => {
-                ServerMessage::ReadyForQuery(ReadyFields { status: status_of(*it)? })
+                ServerMessage::ReadyForQuery(ReadyForQueryFields { status: status_of(*it)? })
             }
-            Message::RowDescription(it) => ServerMessage::RowDescription(ColumnsFields {
+            Message::RowDescription(it) => ServerMessage::RowDescription(RowDescriptionFields {
                 columns: it.iter().map(column_of).collect(),
             }),
             _ => return None,
@@ -252,11 +254,11 @@ fn texts<'t>(texts: &'t [JsonBytes<'_>]) -> List<'t, ByteStr<'t>> {
     texts.iter().map(|json_bytes| ByteStr(&json_bytes.0)).collect()
 }
 
-fn copy_of(it: &CopyResponse<'_>) -> CopyFields {
-    CopyFields { format: it.format, columns: formats(&it.columns) }
+fn copy_of(it: &CopyResponse<'_>) -> CopyResponseFields {
+    CopyResponseFields { format: it.format, columns: formats(&it.columns) }
 }
 
-fn copy(it: &CopyFields) -> CopyResponse<'static> {
+fn copy(it: &CopyResponseFields) -> CopyResponse<'static> {
     CopyResponse { format: it.format, columns: format_list(&it.columns) }
 }
 

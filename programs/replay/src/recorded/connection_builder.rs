@@ -9,7 +9,7 @@ use crate::fingerprint::{Fingerprinter, Fingerprints, UNRECORDED};
 use crate::rules::ReplayRules;
 use crc32fast::Hasher;
 use pgmsg::frontend::Message;
-use recording::Identity;
+use recording::ConnectionIdentity;
 use std::collections::{HashMap, VecDeque};
 use std::ops::Range;
 use std::sync::Arc;
@@ -49,9 +49,10 @@ pub struct RecordBytes<'a> {
     pub time: u64,
 }
 
+/// A connection, as far as its records are read.
 pub struct ConnectionBuilder {
     pub number: u32,
-    pub identity: Identity,
+    pub identity: ConnectionIdentity,
     client: MessageSplitter,
     pub(super) server: MessageSplitter,
     pub(super) matcher: AnswerMatcher,
@@ -99,7 +100,7 @@ impl ConnectionBuilder {
     pub fn new(number: u32, rules: Arc<ReplayRules>) -> ConnectionBuilder {
         ConnectionBuilder {
             number,
-            identity: Identity::default(),
+            identity: ConnectionIdentity::default(),
             client: MessageSplitter::of_connection(),
             server: MessageSplitter::of_server(),
             matcher: AnswerMatcher::default(),

@@ -131,7 +131,7 @@ impl AllowedDifferences<'_> {
     }
 }
 
-/// A difference.
+/// What is said of a difference.
 pub struct DifferenceReport {
     is_startup: bool,
     sentence: String,

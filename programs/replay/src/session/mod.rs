@@ -55,6 +55,7 @@ struct ByteComparison {
     begins: ChunkOffset,
 }
 
+/// A client that has a slot, and how far it is answered.
 pub struct ReplaySession<'s> {
     shared: &'s Shared,
     slot: usize,

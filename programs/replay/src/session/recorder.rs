@@ -19,7 +19,7 @@ const HEARD_MOST: usize = 10_000;
 /// How long a server may take for what was said before.
 const PATIENCE: Duration = Duration::from_secs(60);
 
-/// What a client said and heard.
+/// Records what a client says and hears.
 pub struct SessionRecorder<'s> {
     renewal: &'s Renewal,
     /// Of the connection in this run.
@@ -146,7 +146,7 @@ impl<'s> SessionRecorder<'s> {
     }
 }
 
-/// What a client has heard.
+/// Passes over what a client has heard already, when a server answers it again.
 struct AnswerSkipper<'t> {
     readies: usize,
     tags: &'t [u8],

@@ -12,6 +12,7 @@ use tokio::io::AsyncWriteExt;
 /// Bytes up to this count are sent together.
 const TOGETHER: usize = 64 << 10;
 
+/// What is to be sent.
 enum QueuedAnswer {
     /// What was recorded, by its number; when the client said what it answers, here and by the recording's clock.
     Recorded {
@@ -24,7 +25,7 @@ enum QueuedAnswer {
 
 #[derive(Default)]
 pub struct SendQueue<'s> {
-    items: VecDeque<QueuedAnswer>,
+    answers: VecDeque<QueuedAnswer>,
     /// What another client's message causes that hasn't come.
     late: Vec<usize>,
     keeps_times: bool,
@@ -67,7 +68,7 @@ impl From<Stopped> for SendError {
     }
 }
 
-/// Whether an item can be sent.
+/// Whether an answer can be sent.
 enum SendGate {
     Open,
     At(Instant),
@@ -82,22 +83,22 @@ impl<'s> SendQueue<'s> {
     /// Adds what was heard of a recorded message that the client has said at a time.
     pub fn add(&mut self, recording: &Recording, request: usize, said_at: Instant) {
         let recorded_at = if self.keeps_times { recording.requests.time(request) } else { 0 };
-        let items = recording.answer_of(request).map(|number| QueuedAnswer::Recorded {
+        let answers = recording.answer_of(request).map(|number| QueuedAnswer::Recorded {
             number,
             said_at,
             recorded_at,
         });
-        self.items.extend(items);
+        self.answers.extend(answers);
     }
 
     /// Adds messages that aren't recorded.
     pub fn add_made(&mut self, bytes: Vec<u8>) {
-        self.items.push_back(QueuedAnswer::Made(bytes));
+        self.answers.push_back(QueuedAnswer::Made(bytes));
     }
 
     /// Whether nothing is left to send but what other clients cause.
     pub fn is_empty(&self) -> bool {
-        self.items.is_empty()
+        self.answers.is_empty()
     }
 
     /// Sends what nothing is waited for.
@@ -112,9 +113,9 @@ impl<'s> SendQueue<'s> {
         if holds && self.late.is_empty() {
             return Ok(sent);
         }
-        while let Some(item) = self.next(shared, slot) {
-            match self.gate(shared, slot, &item) {
-                SendGate::Open => self.put(&shared.recording, item, stream).await?,
+        while let Some(answer) = self.next(shared, slot) {
+            match self.gate(shared, slot, &answer) {
+                SendGate::Open => self.put(&shared.recording, answer, stream).await?,
                 SendGate::At(due) => sent.due = Some(due),
                 SendGate::Others => sent.is_for_others = true,
             }
@@ -127,12 +128,12 @@ impl<'s> SendQueue<'s> {
         Ok(sent)
     }
 
-    /// The next item, of what other clients have caused where a whole answer is sent.
+    /// The next answer, of what other clients have caused where a whole answer is sent.
     fn next(&mut self, shared: &Shared, slot: usize) -> Option<QueuedAnswer> {
-        if self.items.is_empty() && !self.late.is_empty() {
+        if self.answers.is_empty() && !self.late.is_empty() {
             self.take_late(shared, slot);
         }
-        self.items.pop_front()
+        self.answers.pop_front()
     }
 
     /// Takes up what other clients have caused, where a whole answer is sent.
@@ -145,7 +146,7 @@ impl<'s> SendQueue<'s> {
         };
         while self.late.first().map_or(false, is_due) {
             let number = self.late.remove(0);
-            self.items.push_back(QueuedAnswer::Recorded {
+            self.answers.push_back(QueuedAnswer::Recorded {
                 number,
                 said_at: now,
                 recorded_at: u64::MAX,
@@ -153,9 +154,9 @@ impl<'s> SendQueue<'s> {
         }
     }
 
-    /// Whether an item can be sent; else it is put back, or kept for later where others aren't behind it.
-    fn gate(&mut self, shared: &Shared, slot: usize, item: &QueuedAnswer) -> SendGate {
-        let QueuedAnswer::Recorded { number, said_at, recorded_at } = *item else {
+    /// Whether an answer can be sent; else it is put back, or kept for later where others aren't behind it.
+    fn gate(&mut self, shared: &Shared, slot: usize, answer: &QueuedAnswer) -> SendGate {
+        let QueuedAnswer::Recorded { number, said_at, recorded_at } = *answer else {
             return SendGate::Open;
         };
         let mut due = None;
@@ -188,16 +189,16 @@ impl<'s> SendQueue<'s> {
     }
 
     fn put_back(&mut self, number: usize, said_at: Instant, recorded_at: u64) {
-        self.items.push_front(QueuedAnswer::Recorded { number, said_at, recorded_at });
+        self.answers.push_front(QueuedAnswer::Recorded { number, said_at, recorded_at });
     }
 
     async fn put(
         &mut self,
         recording: &Recording,
-        item: QueuedAnswer,
+        answer: QueuedAnswer,
         stream: &mut Stream,
     ) -> Result<(), SendError> {
-        let bytes = match &item {
+        let bytes = match &answer {
             QueuedAnswer::Recorded { number, .. } if self.late.last() == Some(number) => {
                 return Ok(())
             }
@@ -222,8 +223,8 @@ impl<'s> SendQueue<'s> {
         shared: &Shared,
         stream: &mut Stream,
     ) -> Result<(), SendError> {
-        while let Some(item) = self.items.pop_front() {
-            self.put(&shared.recording, item, stream).await?;
+        while let Some(answer) = self.answers.pop_front() {
+            self.put(&shared.recording, answer, stream).await?;
         }
         flush(&mut self.together, &mut self.recorder, stream).await
     }

@@ -9,7 +9,7 @@ use std::cell::RefCell;
 use std::collections::{BTreeMap, BTreeSet, HashMap};
 use std::rc::Rc;
 
-/// The name and the type of a column.
+/// The name, the type and the format of a column.
 #[derive(Clone, Debug, PartialEq, Eq)]
 pub struct ColumnDescription {
     pub name: Vec<u8>,

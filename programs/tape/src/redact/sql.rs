@@ -26,7 +26,7 @@ const DEEPEST: usize = 4;
 /// How much is looked at behind each word PASSWORD of a text that is no SQL, in which any number of them may stand.
 const FAR: usize = 4 << 10;
 
-/// A password: where the parts of its string are, and what these mean.
+/// A password: where the parts of its string are, and their value.
 struct PasswordLiteral {
     parts: Vec<Range<usize>>,
     value: Vec<u8>,

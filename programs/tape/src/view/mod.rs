@@ -33,7 +33,7 @@ pub fn view(path: &Path, to: &Path) -> Result<()> {
     let (before, after) = page.split_once("{{data}}").unwrap_or((&page, ""));
     let before = before.replace("{{title}}", &text(&name));
     out.put(before.as_bytes())?;
-    let mut rows = Rows::default();
+    let mut rows = EventRows::default();
     recording.events(|event| {
         rows.add(&event);
         if rows.out.len() > ROOM {
@@ -56,7 +56,7 @@ fn text(text: &str) -> String {
 
 /// The lines of an export as an array, each with the number of its exchange.
 #[derive(Default)]
-struct Rows {
+struct EventRows {
     out: Vec<u8>,
     count: u64,
     writer: LineWriter,
@@ -64,7 +64,7 @@ struct Rows {
     line: Vec<u8>,
 }
 
-impl Rows {
+impl EventRows {
     fn add(&mut self, event: &Event<'_>) {
         self.line.clear();
         self.writer.event(&mut self.line, event);

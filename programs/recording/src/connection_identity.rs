@@ -6,9 +6,9 @@ use std::hash::{Hash, Hasher};
 
 /// The records of a connection, as far as they were added.
 #[derive(Clone, Debug, Default)]
-pub struct Identity(DefaultHasher);
+pub struct ConnectionIdentity(DefaultHasher);
 
-impl Identity {
+impl ConnectionIdentity {
     /// Adds the next record, of a recording that began at a time.
     pub fn add(&mut self, begun: u64, record: &Record<'_>) {
         let time = begun.wrapping_add(record.time);
