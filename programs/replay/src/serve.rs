@@ -73,30 +73,30 @@ impl Shared {
         rules: Arc<ReplayRules>,
         stderr: StderrWriter,
         tls: Option<ServerTls>,
-        settings: ServeOptions,
+        options: ServeOptions,
     ) -> Shared {
-        let (recording, gives_back) = (Arc::new(recording), settings.renewal.is_some());
-        let pool = Pool::new(recording.clone(), settings.again, settings.any_order, gives_back);
+        let (recording, gives_back) = (Arc::new(recording), options.renewal.is_some());
+        let pool = Pool::new(recording.clone(), options.again, options.any_order, gives_back);
         Shared {
             pool: Mutex::new(pool),
             adviser: RuleAdviser::new(recording.clone(), rules.clone()),
             recording,
             rules,
             stirred: Notify::new(),
-            keeps_times: settings.keeps_times,
-            patience: settings.patience,
+            keeps_times: options.keeps_times,
+            patience: options.patience,
             stderr,
-            again: settings.again,
-            any_order: settings.any_order,
-            goes_on: settings.goes_on,
+            again: options.again,
+            any_order: options.any_order,
+            goes_on: options.goes_on,
             tls,
-            login: settings.login,
-            renewal: settings.renewal,
+            login: options.login,
+            renewal: options.renewal,
             is_different: AtomicBool::new(false),
-            is_strict: settings.is_strict,
+            is_strict: options.is_strict,
             is_ambiguous: AtomicBool::new(false),
             openings: Mutex::new(VecDeque::new()),
-            end: settings.end,
+            end: options.end,
         }
     }
 

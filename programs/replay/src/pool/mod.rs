@@ -44,6 +44,7 @@ struct Slot {
     is_pooled: bool,
 }
 
+/// What becomes of a recorded connection.
 #[derive(Clone, Debug, Default)]
 struct ConnectionState {
     /// Of the client that said its Startup.
@@ -56,6 +57,7 @@ struct ConnectionState {
     is_renewed: bool,
 }
 
+/// The turns of a recording, and which clients have them.
 pub struct Pool {
     recording: Arc<Recording>,
     again: bool,

@@ -70,7 +70,7 @@ pub struct ReplaySession<'s> {
     /// Where a long message isn't over, how many bytes of it came.
     long: usize,
     comparison: Option<ByteComparison>,
-    /// What the client said within a transaction isn't recorded.
+    /// Up to what the client is refused, since what it said within a transaction isn't recorded.
     refuse_until: Option<RefuseUntil>,
     out: SendQueue<'s>,
     /// The difference where something is missing.

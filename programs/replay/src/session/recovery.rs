@@ -10,12 +10,12 @@ use crate::report::{bytes_of, refusal, ReportedMessage};
 use pgmsg::backend::{Message as Answer, TransactionStatus};
 use pgmsg::frontend::Message;
 
-/// What a client is refused that said something else than recorded.
+/// Up to what a client is refused that said something else than recorded.
 #[derive(Clone, Copy, Debug, PartialEq, Eq)]
 pub enum RefuseUntil {
-    /// All but a rollback.
+    /// Its rollback.
     Rollback,
-    /// All up to the next Sync, too.
+    /// Its next Sync; then its rollback.
     Sync,
 }
 
@@ -55,7 +55,7 @@ impl ReplaySession<'_> {
         Ok(false)
     }
 
-    /// Takes a message of a client that is lost.
+    /// Takes a message of a client that is refused.
     pub(super) fn take_refused(
         &mut self,
         refuse_until: RefuseUntil,
