@@ -14,6 +14,7 @@ const WAITING_BYTES: usize = 1 << 20;
 /// How long the last lines may take where nobody reads them.
 const PATIENCE: Duration = Duration::from_secs(1);
 
+/// What the thread is told.
 enum StderrLine {
     Text(String),
     /// All before it is written: this is told then.

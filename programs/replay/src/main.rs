@@ -17,7 +17,7 @@ mod mutants;
 use net::{ExitStatus, Failure, Listener, Listeners, ShutdownSignals, StderrWriter, Workers};
 use options::ReplayOptions;
 use renewal::Renewal;
-use serve::{ServeOptions, Shared};
+use serve::{ReplayConfig, Shared};
 use session::ScramSecret;
 use std::path::Path;
 use std::process::ExitCode;
@@ -67,7 +67,7 @@ async fn begin(options: &ReplayOptions, stderr: &StderrWriter) -> Result<ReplayS
         let words = format!("{} has no session that can be replayed", options.file.display());
         return Err(Failure::new(ExitStatus::Damaged, words));
     }
-    let settings = ServeOptions {
+    let config = ReplayConfig {
         keeps_times: options.speed,
         patience: options.patience(),
         again: options.again,
@@ -84,7 +84,7 @@ async fn begin(options: &ReplayOptions, stderr: &StderrWriter) -> Result<ReplayS
     addresses.into_iter().for_each(|it| stderr.say_plain(it));
     let Listeners { listeners, tls } = bound;
     Ok(ReplayServer {
-        shared: Shared::new(recording, rules, stderr.clone(), tls, settings),
+        shared: Shared::new(recording, rules, stderr.clone(), tls, config),
         listeners,
         ends,
         signals,

@@ -54,7 +54,7 @@ pub struct Shared {
 type PendingClient = (Instant, oneshot::Sender<()>);
 
 /// How a recording is served.
-pub struct ServeOptions {
+pub struct ReplayConfig {
     pub keeps_times: bool,
     pub patience: Option<Duration>,
     pub again: bool,
@@ -73,30 +73,30 @@ impl Shared {
         rules: Arc<ReplayRules>,
         stderr: StderrWriter,
         tls: Option<ServerTls>,
-        options: ServeOptions,
+        config: ReplayConfig,
     ) -> Shared {
-        let (recording, gives_back) = (Arc::new(recording), options.renewal.is_some());
-        let pool = Pool::new(recording.clone(), options.again, options.any_order, gives_back);
+        let (recording, gives_back) = (Arc::new(recording), config.renewal.is_some());
+        let pool = Pool::new(recording.clone(), config.again, config.any_order, gives_back);
         Shared {
             pool: Mutex::new(pool),
             adviser: RuleAdviser::new(recording.clone(), rules.clone()),
             recording,
             rules,
             stirred: Notify::new(),
-            keeps_times: options.keeps_times,
-            patience: options.patience,
+            keeps_times: config.keeps_times,
+            patience: config.patience,
             stderr,
-            again: options.again,
-            any_order: options.any_order,
-            goes_on: options.goes_on,
+            again: config.again,
+            any_order: config.any_order,
+            goes_on: config.goes_on,
             tls,
-            login: options.login,
-            renewal: options.renewal,
+            login: config.login,
+            renewal: config.renewal,
             is_different: AtomicBool::new(false),
-            is_strict: options.is_strict,
+            is_strict: config.is_strict,
             is_ambiguous: AtomicBool::new(false),
             openings: Mutex::new(VecDeque::new()),
-            end: options.end,
+            end: config.end,
         }
     }
 

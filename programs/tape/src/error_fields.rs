@@ -33,6 +33,7 @@ const NAMES: [(u8, &str); 18] = [
 /// More fields than a server sends.
 const MANY: usize = 64;
 
+/// The fields by their letters, in the order of the message.
 #[derive(Debug, PartialEq)]
 pub struct ErrorFields<'a>(Vec<(u8, JsonBytes<'a>)>);
 

@@ -7,6 +7,7 @@ use crate::event::EventKind;
 use recording::Side;
 use std::collections::HashMap;
 
+/// Counts the exchanges of a connection.
 #[derive(Clone, Copy, Debug)]
 struct ExchangeCounter {
     /// The exchanges that the next messages of either side belong to.

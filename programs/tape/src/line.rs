@@ -59,7 +59,7 @@ pub struct BytesFields<'a> {
     pub data: JsonBytes<'a>,
 }
 
-/// What a line tells beside its place.
+/// What a line says beside its position.
 #[derive(Debug, PartialEq, Serialize)]
 #[serde(untagged)]
 pub enum LineContent<'a> {

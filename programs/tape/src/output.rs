@@ -19,9 +19,9 @@ pub struct Output {
 }
 
 /// A file that is open only while it is written, so that any number of them can be at hand.
-struct AppendedFile(PathBuf);
+struct ReopenedFile(PathBuf);
 
-impl Write for AppendedFile {
+impl Write for ReopenedFile {
     fn write(&mut self, bytes: &[u8]) -> io::Result<usize> {
         OpenOptions::new().append(true).open(&self.0)?.write(bytes)
     }
@@ -55,7 +55,7 @@ impl Output {
             }
             _ => {
                 let partial = PartialFile::beside(path).map_err(failed)?;
-                (Box::new(AppendedFile(partial.path().to_owned())), Some(partial))
+                (Box::new(ReopenedFile(partial.path().to_owned())), Some(partial))
             }
         };
         let writer = BufWriter::with_capacity(room, file);

@@ -10,7 +10,7 @@ const SHORT: u64 = 8 << 20;
 
 const FORM: &str = "{msg} [{wide_bar}] {bytes}/{total_bytes} {bytes_per_sec} {eta}";
 
-/// What is read of its files moves it.
+/// A bar that is moved by what is read of its files.
 #[derive(Clone)]
 pub struct Progress(ProgressBar);
 

@@ -11,7 +11,7 @@ pub use take::LayoutReader;
 use memchr::memchr;
 use recording::Side;
 
-/// A part of a message.
+/// What a field of a message is, or an element of one.
 #[derive(Debug)]
 enum FieldType {
     /// A text, which a NUL ends.

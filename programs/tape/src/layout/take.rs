@@ -11,7 +11,7 @@ use std::str::from_utf8;
 /// What NULL has for the length of a value.
 const NULL: [u8; 4] = [0xff; 4];
 
-/// Reads lines.
+/// Reads the lines of messages that have a layout.
 #[derive(Default)]
 pub struct LayoutReader {
     /// How the last line began, up to the name of its kind, and what that says. Most lines begin as the one before.
