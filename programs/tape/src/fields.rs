@@ -57,7 +57,7 @@ macro_rules! message_fields {
 
 message_fields! {
     StartupFields { minor: u16, settings: Vec<SettingFields<'a>>, }
-    #[serde(rename = "Setting")]
+    #[serde(expecting = "struct Setting")]
     SettingFields { name: JsonBytes<'a>, value: JsonBytes<'a>, }
     KeyFields { process_id: u32, secret_key: JsonBytes<'a>, }
     BindFields {
@@ -90,7 +90,7 @@ message_fields! {
     NegotiationFields { minor: u16, options: Vec<JsonBytes<'a>>, }
     NotificationFields { process_id: u32, channel: JsonBytes<'a>, payload: JsonBytes<'a>, }
     RowDescriptionFields { columns: Vec<ColumnFields<'a>>, }
-    #[serde(rename = "Column")]
+    #[serde(expecting = "struct Column")]
     ColumnFields {
         name: JsonBytes<'a>,
         table: u32,
