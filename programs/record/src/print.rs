@@ -37,7 +37,7 @@ fn read(path: &Path, printer: &mut Printer, stderr: &StderrWriter) -> Result<(),
     let mut reader = Reader::new(BufReader::new(file)).map_err(damaged)?;
     while let Some(record) = reader.read().map_err(damaged)? {
         printer.take(record.connection, record.kind, record.content);
-        printer.said().iter().for_each(|words| stderr.say(words));
+        printer.notes().iter().for_each(|words| stderr.say(words));
         if printer.lines().len() > ROOM {
             write(printer)?;
         }

@@ -28,7 +28,7 @@ pub struct Printer {
 struct PrinterOutput {
     bytes: Vec<u8>,
     /// What was to be said on standard error.
-    said: Vec<String>,
+    notes: Vec<String>,
     /// How many bytes all directions hold.
     held: usize,
 }
@@ -53,7 +53,7 @@ impl Printer {
             only,
             shows_numbers,
             all: BTreeMap::new(),
-            out: PrinterOutput { bytes: Vec::new(), said: Vec::new(), held: 0 },
+            out: PrinterOutput { bytes: Vec::new(), notes: Vec::new(), held: 0 },
         }
     }
 
@@ -76,7 +76,7 @@ impl Printer {
             (RecordKind::LeftOut(side), Some(_)) => lines.left_out(side, content, &mut self.out),
             (RecordKind::Encrypted, Some(_)) => {
                 let words = format!("connection {number} is encrypted from here on");
-                self.out.said.push(words);
+                self.out.notes.push(words);
             }
             (RecordKind::Closed, Some(both)) => {
                 both.iter().for_each(|state| lines.end(state, &mut self.out));
@@ -102,8 +102,8 @@ impl Printer {
     }
 
     /// What was to be said on standard error, which is taken away.
-    pub fn said(&mut self) -> Vec<String> {
-        std::mem::take(&mut self.out.said)
+    pub fn notes(&mut self) -> Vec<String> {
+        std::mem::take(&mut self.out.notes)
     }
 }
 
@@ -167,7 +167,7 @@ impl LinePrinter {
         loop {
             match self.next(state, &bytes[at..]) {
                 Ok(Next::Incomplete { needed, .. }) if needed > room => {
-                    out.said.push(format!("a message of {needed} bytes isn't shown"));
+                    out.notes.push(format!("a message of {needed} bytes isn't shown"));
                     (state.left, state.skipped) = (needed, 0);
                     state.skip(&bytes[at..]);
                     return bytes.len();
@@ -297,7 +297,7 @@ mod tests {
             printer.take(number, RecordKind::Bytes(Side::Server), &begun);
             assert!(held(&printer).0 <= HELD_MOST);
         }
-        assert!(printer.said().contains(&"a message of 50331649 bytes isn't shown".to_owned()));
+        assert!(printer.notes().contains(&"a message of 50331649 bytes isn't shown".to_owned()));
         printer.take(1, RecordKind::Bytes(Side::Server), &piece);
         printer.take(1, RecordKind::Bytes(Side::Server), &piece[5..]);
         assert!(held(&printer).1 <= HELD_MOST);

@@ -24,7 +24,7 @@ pub struct Proxy {
     pub stderr: StderrWriter,
     /// All ends with the first session, whose status is told here.
     pub single: Option<mpsc::UnboundedSender<ExitStatus>>,
-    pub places: Arc<Semaphore>,
+    pub permits: Arc<Semaphore>,
     /// Calls sessions when clients wait for a place.
     pub is_crowded: Notify,
     pub cancels: AtomicU64,
@@ -37,7 +37,7 @@ impl Proxy {
             sleep_until(begun + CROWDED).await;
             loop {
                 let called = self.is_crowded.notified();
-                if self.places.available_permits() == 0 {
+                if self.permits.available_permits() == 0 {
                     return;
                 }
                 called.await;
@@ -58,12 +58,12 @@ impl Proxy {
     }
 
     /// A place for a client, of which there are as many as the process has descriptors for.
-    async fn place(&self) -> Option<OwnedSemaphorePermit> {
-        if let Ok(place) = self.places.clone().try_acquire_owned() {
-            return Some(place);
+    async fn permit(&self) -> Option<OwnedSemaphorePermit> {
+        if let Ok(permit) = self.permits.clone().try_acquire_owned() {
+            return Some(permit);
         }
         self.is_crowded.notify_waiters();
-        self.places.clone().acquire_owned().await.ok()
+        self.permits.clone().acquire_owned().await.ok()
     }
 
     /// Serves those who connect to a listener, each by a task of its own.
@@ -76,8 +76,8 @@ impl Proxy {
                     continue;
                 }
             };
-            let place = match self.place().await {
-                Some(place) => place,
+            let permit = match self.permit().await {
+                Some(permit) => permit,
                 None => return,
             };
             let proxy = self.clone();
@@ -85,7 +85,7 @@ impl Proxy {
                 if let Ok(client) = client.watch() {
                     ProxySession::new(&proxy, peer).serve(client).await;
                 }
-                drop(place);
+                drop(permit);
             });
         }
     }

@@ -157,7 +157,7 @@ impl RecordSink {
         for &(kind, content) in records {
             printer.take(connection, kind, content);
         }
-        printer.said().iter().for_each(|words| self.stderr.say(words));
+        printer.notes().iter().for_each(|words| self.stderr.say(words));
         Ok(lines.stdout.add(printer.lines()))
     }
 

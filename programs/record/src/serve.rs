@@ -111,7 +111,7 @@ fn proxy_of(
         leaves_out: !options.passwords && !prints_server,
         stderr: stderr.clone(),
         single,
-        places: Arc::new(Semaphore::new(most_sessions(DESCRIPTORS, threads))),
+        permits: Arc::new(Semaphore::new(most_sessions(DESCRIPTORS, threads))),
         is_crowded: Notify::new(),
         cancels: AtomicU64::new(0),
     })

@@ -215,12 +215,12 @@ mod tests {
             (RecordKind::Closed, b"F"),
         ];
         let mut bytes = file_head(1).to_vec();
-        let mut places = vec![bytes.len()];
+        let mut offsets = vec![bytes.len()];
         for (kind, content) in records {
             put_record(&mut bytes, kind, 1, 2, content, crc32(content));
-            places.push(bytes.len());
+            offsets.push(bytes.len());
         }
-        (bytes, places)
+        (bytes, offsets)
     }
 
     /// Reads to the end: up to where, and whether it ends within a record.
@@ -232,13 +232,13 @@ mod tests {
 
     #[test]
     fn each_changed_bit_is_refused_at_its_record() {
-        let (bytes, places) = recording();
+        let (bytes, offsets) = recording();
         for bit in 0..8 * bytes.len() {
             let mut changed = bytes.clone();
             changed[bit / 8] ^= 1 << (bit % 8);
-            let place = places.iter().rfind(|place| **place <= bit / 8);
-            match (read_all(&changed), place) {
-                (Err(Damage::Record { at, .. }), Some(place)) => assert_eq!(at, *place as u64),
+            let offset = offsets.iter().rfind(|offset| **offset <= bit / 8);
+            match (read_all(&changed), offset) {
+                (Err(Damage::Record { at, .. }), Some(offset)) => assert_eq!(at, *offset as u64),
                 (Err(Damage::Head | Damage::NotRecording(_)), None) => {}
                 (read, _) => panic!("a change of bit {bit} is read as {read:?}"),
             }
@@ -247,9 +247,9 @@ mod tests {
 
     #[test]
     fn each_length_is_read_to_its_last_whole_record() {
-        let (bytes, places) = recording();
+        let (bytes, offsets) = recording();
         for length in HEAD..=bytes.len() {
-            let last = places.iter().rfind(|place| **place <= length).unwrap();
+            let last = offsets.iter().rfind(|offset| **offset <= length).unwrap();
             let read = read_all(&bytes[..length]).unwrap();
             assert_eq!(read, (*last as u64, *last < length));
         }

@@ -137,7 +137,7 @@ impl Shared {
     }
 
     /// Ends the connections that have had their time for a Startup, where others wait for a place.
-    fn make_places(&self) {
+    fn make_room(&self) {
         let mut openings = self.openings();
         let late = openings.partition_point(|(begun, _)| begun.elapsed() >= CROWDED_PATIENCE);
         for (_, go) in openings.drain(..late) {
@@ -191,11 +191,11 @@ pub async fn serve(
     workers: &Arc<Workers>,
     mut ends: mpsc::Receiver<Result<(), Failure>>,
 ) -> Result<(), Failure> {
-    let places = Arc::new(Semaphore::new(most_sessions(DESCRIPTORS, workers.count())));
+    let permits = Arc::new(Semaphore::new(most_sessions(DESCRIPTORS, workers.count())));
     for listener in listeners {
-        let (shared, places, workers) = (shared.clone(), places.clone(), workers.clone());
+        let (shared, permits, workers) = (shared.clone(), permits.clone(), workers.clone());
         tokio::spawn(async move {
-            if let Err(why) = accept(&shared, &listener, &places, &workers).await {
+            if let Err(why) = accept(&shared, &listener, &permits, &workers).await {
                 let failure = Failure::new(
                     ExitStatus::Local,
                     format!("no connection can be accepted: {}", plain(&why)),
@@ -249,15 +249,15 @@ pub fn ended(shared: &Shared, ended: Result<(), Failure>) -> ExitStatus {
 async fn accept(
     shared: &Arc<Shared>,
     listener: &Listener,
-    places: &Arc<Semaphore>,
+    permits: &Arc<Semaphore>,
     workers: &Workers,
 ) -> std::io::Result<()> {
     loop {
-        let place = loop {
-            match places.clone().try_acquire_owned() {
-                Ok(place) => break place,
+        let permit = loop {
+            match permits.clone().try_acquire_owned() {
+                Ok(permit) => break permit,
                 Err(_) => {
-                    shared.make_places();
+                    shared.make_room();
                     sleep(PAUSE).await;
                 }
             }
@@ -266,14 +266,14 @@ async fn accept(
             Ok((stream, peer)) => {
                 let (session, has_to_go) = (shared.clone(), shared.note_opening());
                 workers.spawn(async move {
-                    let _place = place;
+                    let _permit = permit;
                     if let Ok(stream) = stream.watch() {
                         greet(&session, stream, peer, has_to_go).await;
                     }
                 });
             }
             Err(why) if may_pass(&why) => {
-                shared.make_places();
+                shared.make_room();
                 sleep(PAUSE).await;
             }
             Err(why) => return Err(why),

@@ -136,23 +136,23 @@ impl<'k> MaskedRanges<'k> {
     /// Puts the masks that are as long as what they mask. Where ranges overlap, the first one counts.
     fn keep_lengths(&self, bytes: &mut [u8]) {
         let mut end = 0;
-        for place in self.sorted(false) {
-            let range = place.range.start.max(end)..place.range.end.max(end);
-            place.mask.put(&mut bytes[range]);
-            end = end.max(place.range.end);
+        for masked in self.sorted(false) {
+            let range = masked.range.start.max(end)..masked.range.end.max(end);
+            masked.mask.put(&mut bytes[range]);
+            end = end.max(masked.range.end);
         }
     }
 
     /// The other masks, where ranges that overlap are one.
     fn splices(&self) -> Vec<Splice<'_>> {
         let mut splices: Vec<Splice<'_>> = Vec::new();
-        for place in self.sorted(true) {
+        for masked in self.sorted(true) {
             match splices.last_mut() {
-                Some(last) if place.range.start < last.range.end => last.go_on(place),
+                Some(last) if masked.range.start < last.range.end => last.go_on(masked),
                 _ => splices.push(Splice {
-                    range: place.range.clone(),
-                    with: place.mask.other().unwrap_or_default().into(),
-                    value: place.value,
+                    range: masked.range.clone(),
+                    with: masked.mask.other().unwrap_or_default().into(),
+                    value: masked.value,
                 }),
             }
         }
@@ -169,14 +169,14 @@ struct Splice<'p> {
 
 impl Splice<'_> {
     /// Takes in a range that overlaps. Where both masks are as long as what they mask, so is that of the whole.
-    fn go_on(&mut self, place: &MaskedRange) {
-        let passed = self.range.end - place.range.start;
-        if let (Mask::Bytes(more), true) = (&place.mask, self.with.len() == self.range.len()) {
-            if more.len() == place.range.len() {
+    fn go_on(&mut self, masked: &MaskedRange) {
+        let passed = self.range.end - masked.range.start;
+        if let (Mask::Bytes(more), true) = (&masked.mask, self.with.len() == self.range.len()) {
+            if more.len() == masked.range.len() {
                 self.with.to_mut().extend(more.iter().skip(passed));
             }
         }
-        self.range.end = self.range.end.max(place.range.end);
+        self.range.end = self.range.end.max(masked.range.end);
     }
 }
 
