@@ -1,0 +1,137 @@
+//! Functions: their contracts go, their bodies stay.
+
+use crate::attributes::Attributes;
+use crate::eraser::Eraser;
+use crate::token::Kind;
+use crate::Refusal;
+use std::ops::Range;
+
+/// What tests are handed.
+const RUNTIME: &str = "HostRuntime";
+
+/// Where the parts of a function stand, by the indexes of tokens.
+struct Signature {
+    name: usize,
+    parameters: Range<usize>,
+    has_where: bool,
+    /// Where the head ends: at the contract, the body or the semicolon.
+    end: usize,
+}
+
+impl<'a> Eraser<'a> {
+    /// A function, of which one item begins at `first`.
+    pub fn function(&mut self, first: usize, attributes: &Attributes) -> Result<(), Refusal> {
+        let begin = self.at;
+        self.qualifiers()?;
+        let signature = self.signature()?;
+        self.heads(begin, signature.end)?;
+        self.contract(first, &signature)?;
+        if self.takes(";") {
+            return Ok(());
+        }
+        self.formatter(&signature);
+        if attributes.is_test {
+            self.test(&signature)?;
+        }
+        let body = self.group("{")?;
+        self.code(body)
+    }
+
+    // What stands before `fn`, of which `final` goes.
+    fn qualifiers(&mut self) -> Result<(), Refusal> {
+        loop {
+            match self.text(0) {
+                "fn" => return Ok(()),
+                "final" => {
+                    let range = self.tokens[self.at].at..self.tokens[self.at + 1].at;
+                    self.edits.delete(range);
+                }
+                "const" | "unsafe" => {}
+                "extern" if self.text(1) == "\"C\"" => self.at += 1,
+                _ => return self.refuse("no item that is known"),
+            }
+            self.at += 1;
+        }
+    }
+
+    fn signature(&mut self) -> Result<Signature, Refusal> {
+        self.expect("fn")?;
+        let name = self.at;
+        self.word()?;
+        if self.text(0) == "<" {
+            self.at = self.after_angles(self.at);
+        }
+        let parameters = self.group("(")?;
+        const STOPS: [&str; 5] = ["where", "requires", "ensures", "{", ";"];
+        self.go_to(&STOPS, self.tokens.len())?;
+        let has_where = self.text(0) == "where";
+        if has_where {
+            self.go_to(&STOPS[1..], self.tokens.len())?;
+        }
+        Ok(Signature { name, parameters, has_where, end: self.at })
+    }
+
+    // `requires {..}` and `ensures NAME {..}`, which go.
+    fn contract(&mut self, first: usize, signature: &Signature) -> Result<(), Refusal> {
+        let begin = self.at;
+        while self.takes("requires") || self.takes("ensures") {
+            if self.is_word(0) {
+                self.at += 1;
+            }
+            let inner = self.group("{")?;
+            self.say(inner);
+        }
+        if self.at == begin {
+            return Ok(());
+        }
+        let body = match self.text(0) {
+            ";" => String::new(),
+            "{" if signature.has_where => format!("\n{}", self.indent_of(first)),
+            "{" => " ".into(),
+            _ => return self.refuse("a body is due"),
+        };
+        let head = self.tokens[begin - 1];
+        let end = if head.text == "," && body.is_empty() { head.at } else { head.end() };
+        self.edits.replace(end..self.tokens[self.at].at, body);
+        Ok(())
+    }
+
+    // `fmt<W: fmt::Write>(.., f: &mut fmt::Formatter<W>)` is what core has without the parameter.
+    fn formatter(&mut self, signature: &Signature) {
+        let (name, open) = (self.tokens[signature.name], signature.name + 1);
+        let generics: Vec<&str> = (open..open + 7).map(|index| self.text_at(index)).collect();
+        if name.text != "fmt" || generics != ["<", "W", ":", "fmt", "::", "Write", ">"] {
+            return;
+        }
+        self.edits.delete(name.end()..self.tokens[open + 6].end());
+        for index in signature.parameters.clone() {
+            if self.text_at(index) == "W" {
+                let range = self.tokens[index].at..self.tokens[index].end();
+                self.edits.replace(range, "'_");
+            }
+        }
+    }
+
+    // A test that is handed a runtime becomes one that hands it over, once for each request for memory that is refused.
+    fn test(&mut self, signature: &Signature) -> Result<(), Refusal> {
+        let parameters: Vec<&str> = signature.parameters.clone().map(|index| self.text_at(index)).collect();
+        if parameters != ["rt", ":", RUNTIME] {
+            self.at = signature.parameters.start;
+            return self.refuse("a test takes `rt: HostRuntime`");
+        }
+        let name = self.tokens[signature.name];
+        let answer = self.source[self.tokens[signature.parameters.end].end()..self.tokens[signature.end].at].trim();
+        let answer = if answer.is_empty() { String::new() } else { format!(" {answer}") };
+        self.edits.replace(
+            name.at..name.end(),
+            format!("{0}(){answer} {{\n    rattle::test::run({0}_with)\n}}\n\nfn {0}_with", name.text),
+        );
+        self.prelude.insert(RUNTIME);
+        Ok(())
+    }
+
+    /// Whether a function stands at a token, and not the type of one.
+    pub fn is_function(&self, index: usize) -> bool {
+        self.text_at(index) == "fn" && self.kind_at(index + 1) == Some(Kind::Word)
+    }
+}

@@ -1,0 +1,44 @@
+//! Takes the contracts and proofs out of Rattle sources, and leaves Rust.
+//!
+//! Rattle is Rust with contracts. What the prover reads goes: `ghost` items and fields, `requires` and `ensures`,
+//! implementations of `Model`, tactics and modules of laws. What differs from Rust becomes calls of a crate `rattle`, which
+//! stands in for the toolchain's library. All else stays as it is, with its comments and layout. What the eraser doesn't
+//! know it refuses, with the file and the line.
+
+#![forbid(unsafe_code)]
+#![warn(missing_docs)]
+
+mod attributes;
+mod code;
+mod edits;
+mod eraser;
+mod folder;
+mod functions;
+mod imports;
+mod items;
+mod names;
+mod refusal;
+mod token;
+
+pub use folder::{erase_folder, Root};
+pub use names::Names;
+pub use refusal::Refusal;
+
+use eraser::Eraser;
+
+/// The Rust of a Rattle source.
+pub fn erase(source: &str, names: &Names) -> Result<String, Refusal> {
+    let mut eraser = Eraser::new(source, names)?;
+    eraser.file()?;
+    eraser.clean_imports();
+    let imports: Vec<&str> = eraser.prelude.iter().copied().collect();
+    let line = match imports[..] {
+        [] => return Ok(eraser.edits.apply(source)),
+        [name] => format!("use rattle::prelude::{name};\n"),
+        _ => format!("use rattle::prelude::{{{}}};\n", imports.join(", ")),
+    };
+    if let Some((at, is_use)) = eraser.front {
+        eraser.edits.insert(at, if is_use { line } else { line + "\n" });
+    }
+    Ok(eraser.edits.apply(source))
+}
