@@ -1,0 +1,3 @@
+//! Hexadecimal digits.
+
+pub use hex_crate::{decode_to_slice, encode_to_slice, FromHexError};

@@ -1,0 +1,56 @@
+//! What tests are handed, and how they run where memory is refused.
+
+use crate::alloc::Global;
+use core::fmt;
+use rust_alloc::string::{String, ToString};
+use rust_alloc::vec::Vec;
+
+/// What a test and a program are handed.
+#[derive(Clone, Copy, Debug, Default)]
+pub struct HostRuntime;
+
+impl HostRuntime {
+    /// The allocator.
+    pub fn alloc(&self) -> Global {
+        Global
+    }
+}
+
+/// What ends a test early.
+pub struct Fail(String);
+
+impl<E: fmt::Display> From<E> for Fail {
+    fn from(error: E) -> Self {
+        Fail(error.to_string())
+    }
+}
+
+impl fmt::Debug for Fail {
+    fn fmt(&self, f: &mut fmt::Formatter<'_>) -> fmt::Result {
+        f.write_str(&self.0)
+    }
+}
+
+/// The size of a request for memory that orders an allocator of tests to refuse the nth of the requests that follow, as
+/// `ORDER + nth`; it is granted never. As itself it is granted where one was refused since.
+pub const ORDER: usize = 0x5245_4655_5347_0000;
+
+// A test makes fewer requests than these, or isn't refused the others.
+const MOST: usize = 300;
+
+/// Runs a test with its first request for memory refused, then with its second and so on; it may end with an error then.
+/// Lastly it runs with none refused. An allocator that takes no orders refuses none.
+pub fn run<T>(test: fn(HostRuntime) -> T) -> T {
+    for nth in 1..=MOST {
+        is_granted(ORDER + nth);
+        test(HostRuntime);
+        if !is_granted(ORDER) {
+            break;
+        }
+    }
+    test(HostRuntime)
+}
+
+fn is_granted(size: usize) -> bool {
+    Vec::<u8>::new().try_reserve_exact(size).is_ok()
+}
