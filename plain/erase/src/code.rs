@@ -143,7 +143,7 @@ impl<'a> Eraser<'a> {
             return Ok(());
         }
         self.used.insert(token.text);
-        if let Some(name) = ["HostRuntime", "String", "Vec"].into_iter().find(|name| *name == token.text) {
+        if let Some(name) = ["Alloc", "HostRuntime", "String", "Vec"].into_iter().find(|name| *name == token.text) {
             self.prelude.insert(name);
         }
         if self.text_at(index + 1) != "::" {

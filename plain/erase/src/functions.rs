@@ -32,6 +32,8 @@ impl<'a> Eraser<'a> {
         self.formatter(&signature);
         if attributes.is_test {
             self.test(&signature)?;
+        } else if self.text_at(signature.name) == "main" {
+            self.main(&signature);
         }
         let body = self.group("{")?;
         self.code(body)
@@ -112,10 +114,24 @@ impl<'a> Eraser<'a> {
         }
     }
 
+    // A program makes the runtime itself that it is handed.
+    fn main(&mut self, signature: &Signature) {
+        if !self.takes_runtime(signature) {
+            return;
+        }
+        let parameters = &signature.parameters;
+        self.edits.delete(self.tokens[parameters.start].at..self.tokens[parameters.end].at);
+        self.edits.insert(self.tokens[signature.end].end(), format!("\n    let rt = {RUNTIME};"));
+    }
+
+    fn takes_runtime(&self, signature: &Signature) -> bool {
+        let parameters = &self.tokens[signature.parameters.clone()];
+        parameters.iter().map(|token| token.text).eq(["rt", ":", RUNTIME])
+    }
+
     // A test that is handed a runtime becomes one that hands it over, once for each request for memory that is refused.
     fn test(&mut self, signature: &Signature) -> Result<(), Refusal> {
-        let parameters: Vec<&str> = signature.parameters.clone().map(|index| self.text_at(index)).collect();
-        if parameters != ["rt", ":", RUNTIME] {
+        if !self.takes_runtime(signature) {
             self.at = signature.parameters.start;
             return self.refuse("a test takes `rt: HostRuntime`");
         }

@@ -4,11 +4,12 @@
 #[derive(Clone, Debug)]
 pub struct Names {
     own: String,
+    shared: Option<String>,
     others: Vec<(String, String)>,
 }
 
 /// Modules of std that are Rust's.
-const OF_CORE: [&str; 10] = ["cmp", "error", "fmt", "iter", "marker", "mem", "num", "ops", "slice", "str"];
+const OF_CORE: [&str; 11] = ["cell", "cmp", "error", "fmt", "iter", "marker", "mem", "num", "ops", "slice", "str"];
 
 /// Modules of std that the stand-in has.
 const OF_RATTLE: [&str; 6] = ["alloc", "env", "io", "process", "simd", "test"];
@@ -18,7 +19,7 @@ const CRATES: [&str; 7] = ["base64", "byteorder", "bytes", "hex", "itoa", "memch
 
 impl Default for Names {
     fn default() -> Self {
-        Names { own: "crate".into(), others: Vec::new() }
+        Names { own: "crate".into(), shared: None, others: Vec::new() }
     }
 }
 
@@ -34,6 +35,12 @@ impl Names {
         self
     }
 
+    /// A module of the crate that stays where it is, although `crate` becomes something else.
+    pub fn shared(mut self, module: &str) -> Self {
+        self.shared = Some(module.into());
+        self
+    }
+
     /// What the name of another crate becomes.
     pub fn other(mut self, name: &str, path: &str) -> Self {
         self.others.push((name.into(), path.into()));
@@ -44,6 +51,7 @@ impl Names {
     /// eraser doesn't know is refused with the path.
     pub(crate) fn first(&self, first: &str, second: &str) -> Result<Option<String>, String> {
         Ok(match first {
+            "crate" if self.shared.as_deref() == Some(second) => None,
             "crate" => (self.own != "crate").then(|| self.own.clone()),
             "std" if OF_CORE.contains(&second) => Some("core".into()),
             "std" if OF_RATTLE.contains(&second) => Some("rattle".into()),
@@ -60,9 +68,10 @@ mod tests {
 
     #[test]
     fn each_kind_of_name() {
-        let names = Names::new().own("crate::a").other("b", "crate::b");
+        let names = Names::new().own("crate::a").shared("s").other("b", "crate::b");
         let first = |name, next| names.first(name, next);
         assert_eq!(first("crate", "x"), Ok(Some("crate::a".into())));
+        assert_eq!(first("crate", "s"), Ok(None));
         assert_eq!(first("b", "x"), Ok(Some("crate::b".into())));
         assert_eq!(first("std", "fmt"), Ok(Some("core".into())));
         assert_eq!(first("std", "alloc"), Ok(Some("rattle".into())));

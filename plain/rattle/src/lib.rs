@@ -8,11 +8,17 @@
 #![deny(unsafe_op_in_unsafe_fn, clippy::undocumented_unsafe_blocks)]
 
 extern crate alloc as rust_alloc;
+#[cfg(feature = "std")]
+extern crate std;
 
 pub mod alloc;
 pub mod base64;
 pub mod bytes;
+#[cfg(feature = "std")]
+pub mod env;
 pub mod hex;
+#[cfg(feature = "std")]
+pub mod io;
 pub mod iter;
 pub mod prelude;
 pub mod process;

@@ -2,5 +2,5 @@
 
 pub use crate::iter::CollectIn;
 pub use crate::string::{String, ToStringIn};
-pub use crate::test::HostRuntime;
+pub use crate::test::{Alloc, HostRuntime};
 pub use crate::vec::Vec;

@@ -1,6 +1,6 @@
 //! `String`, whose calls may be refused memory.
 
-use crate::alloc::{AllocError, AllocFailed, Global};
+use crate::alloc::{AllocError, Global};
 use core::{fmt, ops};
 use rust_alloc::string;
 
@@ -57,13 +57,13 @@ impl String {
     }
 
     /// Adds a character.
-    pub fn push(&mut self, c: char) -> Result<(), AllocFailed<char>> {
-        self.push_str(c.encode_utf8(&mut [0; 4])).map_err(|_| AllocFailed { value: c })
+    pub fn push(&mut self, c: char) -> Result<(), AllocError> {
+        self.push_str(c.encode_utf8(&mut [0; 4]))
     }
 
-    /// What `write!` calls.
-    pub fn write_fmt(&mut self, text: fmt::Arguments<'_>) -> fmt::Result {
-        fmt::Write::write_fmt(self, text)
+    /// What `write!` calls. Only memory can be wanting.
+    pub fn write_fmt(&mut self, text: fmt::Arguments<'_>) -> Result<(), AllocError> {
+        fmt::Write::write_fmt(self, text).map_err(|_| AllocError)
     }
 
     /// The same text in memory of its own.
@@ -107,10 +107,10 @@ impl fmt::Display for String {
 
 /// `to_string` with an allocator.
 pub trait ToStringIn: fmt::Display {
-    /// What the value prints. Only memory can be wanting.
+    /// What the value prints.
     fn to_string_in(&self, alloc: Global) -> Result<String, AllocError> {
         let mut text = String::new(alloc);
-        text.write_fmt(format_args!("{self}")).map_err(|_| AllocError)?;
+        text.write_fmt(format_args!("{self}"))?;
         Ok(text)
     }
 }

@@ -16,6 +16,41 @@ impl HostRuntime {
     }
 }
 
+#[cfg(feature = "std")]
+impl HostRuntime {
+    /// The program's input.
+    pub fn stdin(&self) -> crate::io::Stdin {
+        std::io::stdin()
+    }
+
+    /// The program's output.
+    pub fn stdout(&self) -> crate::io::Stdout {
+        std::io::stdout()
+    }
+
+    /// Where the program's faults are reported.
+    pub fn stderr(&self) -> crate::io::Stderr {
+        std::io::stderr()
+    }
+}
+
+/// What has an allocator.
+pub trait Alloc {
+    /// The allocator's type.
+    type A;
+
+    /// The allocator.
+    fn alloc(&self) -> Self::A;
+}
+
+impl Alloc for HostRuntime {
+    type A = Global;
+
+    fn alloc(&self) -> Global {
+        Global
+    }
+}
+
 /// What ends a test early.
 pub struct Fail(String);
 

@@ -1,0 +1,5 @@
+//! Writes and reads PostgreSQL messages that are given as lines of text: `crates/pg_tool`, erased.
+
+#![forbid(unsafe_code)]
+
+include!(concat!(env!("OUT_DIR"), "/main.rs"));
