@@ -42,6 +42,14 @@ impl<'a> Eraser<'a> {
             }
             "unsafe" if self.text(1) == "{" => self.unsafe_block()?,
             label if label.starts_with('\'') && self.text(1) == ":" => self.label(),
+            "." if self.c_fields.contains(self.text(1)) => {
+                self.slice_read(self.at + 1);
+                self.at += 2;
+            }
+            _ if self.is_word(0) && self.text(1) == "{" => {
+                self.struct_value(self.at);
+                self.at += 2;
+            }
             "." if self.text(2) == "(" || self.text(2) == "::" => self.call(),
             _ if self.is_macro() => self.macro_call()?,
             _ => self.at += 1,

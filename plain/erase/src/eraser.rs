@@ -18,6 +18,8 @@ pub(crate) struct Eraser<'a> {
     pub prelude: BTreeSet<&'static str>,
     /// Macros that the source defines.
     pub macros: BTreeSet<&'a str>,
+    /// Fields that are slices of structs that C fills, of those that the source names.
+    pub c_fields: BTreeSet<&'a str>,
     /// Functions of others that the source declares.
     pub foreign: BTreeSet<&'a str>,
     /// Where the imports of those are to be added: the first `use` or else the first item, and whether it is a `use`.
@@ -32,9 +34,12 @@ pub(crate) struct Eraser<'a> {
 
 impl<'a> Eraser<'a> {
     pub fn new(source: &'a str, names: &'a Names) -> Result<Self, Refusal> {
+        let tokens = tokens(source)?;
+        let slices = tokens.iter().filter_map(|token| names.c_structs().slices_of(token.text));
         Ok(Eraser {
             source,
-            tokens: tokens(source)?,
+            c_fields: slices.flatten().map(String::as_str).collect(),
+            tokens,
             at: 0,
             edits: Edits::default(),
             names,

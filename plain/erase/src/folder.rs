@@ -1,6 +1,6 @@
 //! The sources of a crate.
 
-use crate::{erase, Names, Refusal};
+use crate::{erase, CStructs, Names, Refusal};
 use std::fs;
 use std::path::{Path, PathBuf};
 
@@ -33,6 +33,18 @@ pub fn erase_folder(source: &Path, target: &Path, root: Root, names: &Names) -> 
         read.push(file);
     }
     Ok(read)
+}
+
+/// The structs that C fills in the sources of a folder.
+pub fn c_structs_of_folder(source: &Path) -> Result<CStructs, Refusal> {
+    let mut all = CStructs::default();
+    for file in files(source)? {
+        if file.extension().is_some_and(|ending| ending == "rt") {
+            let text = fs::read_to_string(&file).map_err(|error| Refusal::of_file(&file, error))?;
+            all = all.and(CStructs::of(&text).map_err(|refusal| Refusal { file, ..refusal })?);
+        }
+    }
+    Ok(all)
 }
 
 // The path of a source without its ending; nothing for a file of laws or of something else.

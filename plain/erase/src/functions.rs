@@ -22,7 +22,7 @@ impl<'a> Eraser<'a> {
     /// A function, of which one item begins at `first`.
     pub fn function(&mut self, first: usize, attributes: &Attributes) -> Result<(), Refusal> {
         let begin = self.at;
-        self.qualifiers()?;
+        let exported = self.qualifiers()?;
         let signature = self.signature()?;
         self.heads(begin, signature.end)?;
         self.contract(first, &signature)?;
@@ -30,26 +30,59 @@ impl<'a> Eraser<'a> {
             return Ok(());
         }
         self.formatter(&signature);
+        if let Some(keyword) = exported {
+            self.export(keyword, signature.parameters.clone(), self.at)?;
+        }
         if attributes.is_test {
             self.test(&signature)?;
         } else if self.text_at(signature.name) == "main" {
             self.main(&signature);
         }
         let body = self.group("{")?;
+        self.mark_unused(&signature, body.clone());
         self.code(body)
     }
 
-    // What stands before `fn`, of which `final` goes.
-    fn qualifiers(&mut self) -> Result<(), Refusal> {
+    // A parameter that no code names, since the contract alone does, begins with an underscore.
+    fn mark_unused(&mut self, signature: &Signature, body: Range<usize>) {
+        for name in signature.parameters.clone() {
+            let token = self.tokens[name];
+            let is_name = self.text_at(name + 1) == ":" && ["(", ","].contains(&self.text_at(name - 1));
+            if !is_name || !self.said.contains(token.text) {
+                continue;
+            }
+            if !body.clone().any(|index| self.names_value(index, token.text)) {
+                self.edits.insert(token.at, "_");
+            }
+        }
+    }
+
+    // Whether a token of a body names a value, and no field of this name; or prints it.
+    fn names_value(&self, index: usize, name: &str) -> bool {
+        let text = self.text_at(index);
+        if self.kind_at(index) == Some(Kind::Literal) {
+            return text.contains(&format!("{{{name}"));
+        }
+        let follows_dot = self.text_at(index - 1) == "." && self.text_at(index - 2) != ".";
+        let is_field = follows_dot || self.text_at(index + 1) == ":";
+        text == name && !is_field
+    }
+
+    // What stands before `fn`, of which `final` goes. Where `extern` stands, if it does.
+    fn qualifiers(&mut self) -> Result<Option<usize>, Refusal> {
+        let mut exported = None;
         loop {
             match self.text(0) {
-                "fn" => return Ok(()),
+                "fn" => return Ok(exported),
                 "final" => {
                     let range = self.tokens[self.at].at..self.tokens[self.at + 1].at;
                     self.edits.delete(range);
                 }
                 "const" | "unsafe" => {}
-                "extern" if self.text(1) == "\"C\"" => self.at += 1,
+                "extern" if self.text(1) == "\"C\"" => {
+                    exported = Some(self.at);
+                    self.at += 1;
+                }
                 _ => return self.refuse("no item that is known"),
             }
             self.at += 1;

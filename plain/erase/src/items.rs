@@ -4,6 +4,7 @@ use crate::attributes::Attributes;
 use crate::eraser::Eraser;
 use crate::token::Kind;
 use crate::Refusal;
+use std::ops::Range;
 
 impl<'a> Eraser<'a> {
     /// The items up to a token.
@@ -131,7 +132,7 @@ impl<'a> Eraser<'a> {
         self.heads(head, self.at)?;
         if self.text(0) == "{" {
             let inner = self.group("{")?;
-            self.fields(inner)?;
+            self.fields(inner, self.text_at(keyword + 1))?;
         } else {
             if self.text(0) == "(" {
                 let inner = self.group("(")?;
@@ -145,8 +146,9 @@ impl<'a> Eraser<'a> {
         Ok(())
     }
 
-    // Fields of a struct or of a variant. Those that are ghosts go.
-    fn fields(&mut self, inner: std::ops::Range<usize>) -> Result<(), Refusal> {
+    // Fields of a struct or of a variant, by the name of that. Those that are ghosts go.
+    fn fields(&mut self, inner: Range<usize>, of: &str) -> Result<(), Refusal> {
+        let slices = self.names.c_structs().slices_of(of).cloned().unwrap_or_default();
         let after = self.at;
         self.at = inner.start;
         while self.at < inner.end {
@@ -164,6 +166,9 @@ impl<'a> Eraser<'a> {
                 self.at = self.after_type_token();
             }
             self.heads(name, self.at)?;
+            if slices.contains(self.text_at(name)) {
+                self.slice_field(name + 2..self.at);
+            }
             self.takes(",");
         }
         self.at = after;
@@ -205,11 +210,11 @@ impl<'a> Eraser<'a> {
         self.at = inner.start;
         while self.at < inner.end {
             self.attributes()?;
-            self.word()?;
+            let name = self.word()?;
             match self.text(0) {
                 "{" => {
                     let fields = self.group("{")?;
-                    self.fields(fields)?;
+                    self.fields(fields, name)?;
                 }
                 "(" => {
                     let types = self.group("(")?;

@@ -9,9 +9,11 @@
 #![warn(missing_docs)]
 
 mod attributes;
+mod c_structs;
 mod code;
 mod edits;
 mod eraser;
+mod exports;
 mod folder;
 mod functions;
 mod imports;
@@ -20,7 +22,8 @@ mod names;
 mod refusal;
 mod token;
 
-pub use folder::{erase_folder, Root};
+pub use c_structs::CStructs;
+pub use folder::{c_structs_of_folder, erase_folder, Root};
 pub use names::Names;
 pub use refusal::Refusal;
 

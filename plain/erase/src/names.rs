@@ -1,11 +1,14 @@
 //! Where the names of crates lead in what comes out.
 
+use crate::CStructs;
+
 /// The crates of a source, by the paths that they become.
 #[derive(Clone, Debug)]
 pub struct Names {
     own: String,
     shared: Option<String>,
     others: Vec<(String, String)>,
+    c_structs: CStructs,
 }
 
 /// Modules of std that are Rust's.
@@ -19,7 +22,7 @@ const CRATES: [&str; 7] = ["base64", "byteorder", "bytes", "hex", "itoa", "memch
 
 impl Default for Names {
     fn default() -> Self {
-        Names { own: "crate".into(), shared: None, others: Vec::new() }
+        Names { own: "crate".into(), shared: None, others: Vec::new(), c_structs: CStructs::default() }
     }
 }
 
@@ -45,6 +48,16 @@ impl Names {
     pub fn other(mut self, name: &str, path: &str) -> Self {
         self.others.push((name.into(), path.into()));
         self
+    }
+
+    /// Structs that C fills. Without them a struct in the layout of C stays as it is.
+    pub fn with_c_structs(mut self, structs: CStructs) -> Self {
+        self.c_structs = structs;
+        self
+    }
+
+    pub(crate) fn c_structs(&self) -> &CStructs {
+        &self.c_structs
     }
 
     /// What the first name of a path becomes, with the one after it, or nothing where it stays. What std has and the

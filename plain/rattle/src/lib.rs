@@ -16,6 +16,7 @@ pub mod base64;
 pub mod bytes;
 #[cfg(feature = "std")]
 pub mod env;
+pub mod ffi;
 pub mod hex;
 #[cfg(feature = "std")]
 pub mod io;
