@@ -1,16 +1,27 @@
 //! Erases the sources of the crates for C into modules of this one. A package holds them erased in `src/erased`.
 
-use erase::{c_structs_of_folder, erase_folder, CStructs, Names, Refusal, Root};
+use erase::{c_structs_of_folder, erase_folder, modules, CStructs, Names, Refusal, Root};
 use std::path::{Path, PathBuf};
 use std::{env, fs, process};
 
 /// The crates that `pg_c` stands on, and itself.
-const CRATES: [&str; 8] =
-    ["pg_base", "pg_format", "pg_send", "pg_receive", "pg_server", "pg_replication", "pg_frames", "pg_c"];
+const CRATES: [&str; 8] = [
+    "pg_base",
+    "pg_format",
+    "pg_send",
+    "pg_receive",
+    "pg_server",
+    "pg_replication",
+    "pg_frames",
+    "pg_c",
+];
 
 fn main() {
-    let manifest = PathBuf::from(env::var_os("CARGO_MANIFEST_DIR").expect("cargo names the folder of the package"));
-    let out = PathBuf::from(env::var_os("OUT_DIR").expect("cargo names a folder for what is built"));
+    let manifest = PathBuf::from(
+        env::var_os("CARGO_MANIFEST_DIR").expect("cargo names the folder of the package"),
+    );
+    let out =
+        PathBuf::from(env::var_os("OUT_DIR").expect("cargo names a folder for what is built"));
     let packed = manifest.join("src/erased");
     let erased = if packed.is_dir() {
         packed
@@ -20,9 +31,9 @@ fn main() {
         write_words(&top.join("bindings/c/library/words.c"), &out);
         out.clone()
     };
-    let names = CRATES.iter().chain(&["refusals"]);
-    let modules: String = names.map(|name| module(&erased, name)).collect();
-    fs::write(out.join("crates.rs"), modules).expect("the folder for what is built can be written");
+    let names = [&CRATES[..], &["refusals"]].concat();
+    fs::write(out.join("crates.rs"), modules(&erased, &names))
+        .expect("the folder for what is built can be written");
 }
 
 fn end(why: &str) {
@@ -40,7 +51,8 @@ fn erase_all(crates: &Path, out: &Path) -> Result<(), Refusal> {
         // What C fills is named by its crate, and by the last.
         let named = if name == "pg_c" { structs.clone() } else { own };
         let names = Names::new().own(&format!("crate::{name}")).with_c_structs(named);
-        let names = CRATES.iter().fold(names, |names, name| names.other(name, &format!("crate::{name}")));
+        let names =
+            CRATES.iter().fold(names, |names, name| names.other(name, &format!("crate::{name}")));
         erase_folder(&source, &out.join(name), Root::Module, &names)?;
     }
     Ok(())
@@ -50,7 +62,9 @@ fn erase_all(crates: &Path, out: &Path) -> Result<(), Refusal> {
 fn write_words(library: &Path, out: &Path) {
     println!("cargo:rerun-if-changed={}", library.display());
     let text = fs::read_to_string(library).expect("the words of the library can be read");
-    let rows = text.lines().filter_map(|line| line.trim().strip_prefix("[-PGMSG_")?.strip_suffix(',')?.split_once("] = "));
+    let rows = text.lines().filter_map(|line| {
+        line.trim().strip_prefix("[-PGMSG_")?.strip_suffix(',')?.split_once("] = ")
+    });
     let arms: String = rows.map(|(name, words)| format!("        {name} => c{words},\n")).collect();
     let words = format!(
         "use crate::pg_c::refusal::*;\nuse core::ffi::CStr;\n\n/// The words of a number that a call returns.\n\
@@ -58,11 +72,6 @@ fn write_words(library: &Path, out: &Path) {
          _ => c\"unknown error\",\n    }}\n}}\n"
     );
     fs::create_dir_all(out.join("refusals")).expect("the folder for what is built can be written");
-    fs::write(out.join("refusals/mod.rs"), words).expect("the folder for what is built can be written");
-}
-
-/// The declaration of a module whose sources are there.
-fn module(erased: &Path, name: &str) -> String {
-    let root = erased.join(name).join("mod.rs");
-    format!("#[path = {root:?}]\npub mod {name};\n")
+    fs::write(out.join("refusals/mod.rs"), words)
+        .expect("the folder for what is built can be written");
 }

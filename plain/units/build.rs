@@ -7,8 +7,16 @@ use std::path::{Path, PathBuf};
 use std::{env, fs, io, process};
 
 /// The crates below `pgmsg_core`.
-const CORE: [&str; 8] =
-    ["pg_base", "pg_format", "pg_send", "pg_receive", "pg_server", "pg_replication", "pg_frames", "pg_message"];
+const CORE: [&str; 8] = [
+    "pg_base",
+    "pg_format",
+    "pg_send",
+    "pg_receive",
+    "pg_server",
+    "pg_replication",
+    "pg_frames",
+    "pg_message",
+];
 
 /// The modules of this crate, and where their sources are.
 const MODULES: [(&str, &str); 11] = [
@@ -26,8 +34,12 @@ const MODULES: [(&str, &str); 11] = [
 ];
 
 fn main() {
-    let top = PathBuf::from(env::var_os("CARGO_MANIFEST_DIR").expect("cargo names the folder of the package")).join("../..");
-    let out = PathBuf::from(env::var_os("OUT_DIR").expect("cargo names a folder for what is built"));
+    let top = PathBuf::from(
+        env::var_os("CARGO_MANIFEST_DIR").expect("cargo names the folder of the package"),
+    )
+    .join("../..");
+    let out =
+        PathBuf::from(env::var_os("OUT_DIR").expect("cargo names a folder for what is built"));
     if let Err(refusal) = erase_all(&top, &out) {
         eprintln!("{refusal}");
         process::exit(1);
@@ -40,14 +52,22 @@ fn main() {
 
 /// Declares the modules: all here, but the tests of the program in the program.
 fn write_modules(out: &Path) -> io::Result<()> {
-    let names = ["refusing"].into_iter().chain(MODULES.map(|(name, _)| name)).filter(|name| !name.contains('/'));
-    fs::write(out.join("tests.rs"), names.map(|name| format!("mod {name};\n")).collect::<String>())?;
+    let names = ["refusing"]
+        .into_iter()
+        .chain(MODULES.map(|(name, _)| name))
+        .filter(|name| !name.contains('/'));
+    fs::write(
+        out.join("tests.rs"),
+        names.map(|name| format!("mod {name};\n")).collect::<String>(),
+    )?;
     let mut program = OpenOptions::new().append(true).open(out.join("pg_tool/mod.rs"))?;
     program.write_all(b"\nmod tests;\n")
 }
 
 fn erase_all(top: &Path, out: &Path) -> Result<(), Refusal> {
-    let names = CORE.iter().fold(Names::new().shared("refusing"), |names, name| names.other(name, &format!("pgmsg_core::{name}")));
+    let names = CORE.iter().fold(Names::new().shared("refusing"), |names, name| {
+        names.other(name, &format!("pgmsg_core::{name}"))
+    });
     let names = names.other("examples", "crate::examples");
     erase(&top.join("tests/refused"), out, &names)?;
     for (name, source) in MODULES {

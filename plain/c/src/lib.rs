@@ -4,7 +4,8 @@
 //! of callers.
 
 #![deny(unsafe_op_in_unsafe_fn)]
-#![allow(missing_docs)]
+// The sources have a style of their own, and the header documents the calls.
+#![allow(clippy::all, missing_docs)]
 
 include!(concat!(env!("OUT_DIR"), "/crates.rs"));
 

@@ -5,5 +5,7 @@
 
 #![no_std]
 #![forbid(unsafe_code)]
+// The sources have a style of their own.
+#![allow(clippy::all)]
 
 include!(concat!(env!("OUT_DIR"), "/crates.rs"));

@@ -14,7 +14,8 @@ pub(crate) struct Attributes {
 const OF_RUST: [&str; 6] = ["cold", "inline", "must_use", "non_exhaustive", "repr", "unsafe"];
 
 /// Traits that Rust derives.
-const DERIVED: [&str; 8] = ["Clone", "Copy", "Debug", "Default", "Eq", "Ord", "PartialEq", "PartialOrd"];
+const DERIVED: [&str; 8] =
+    ["Clone", "Copy", "Debug", "Default", "Eq", "Ord", "PartialEq", "PartialOrd"];
 
 impl<'a> Eraser<'a> {
     /// The attributes in front of an item.
@@ -128,5 +129,59 @@ impl<'a> Eraser<'a> {
             ),
         );
         Ok(())
+    }
+}
+
+#[cfg(test)]
+mod tests {
+    use crate::tests::{erased, refused};
+
+    #[test]
+    fn tactics() {
+        assert_eq!(erased("//! Doc.\n#![tactic(auto)]\n\nmod a;\n"), "//! Doc.\n\nmod a;\n");
+        assert_eq!(
+            erased("/// F.\n#[inline]\n#[tactic(auto, using(a::b))]\nfn f() {}\n"),
+            "/// F.\n#[inline]\nfn f() {}\n"
+        );
+    }
+
+    #[test]
+    fn derives() {
+        assert_eq!(
+            erased("#[derive(Debug, Drop, PartialEq)]\nstruct A;\n"),
+            "#[derive(Debug, PartialEq)]\nstruct A;\n"
+        );
+        assert_eq!(erased("/// A.\n#[derive(Drop)]\nstruct A;\n"), "/// A.\nstruct A;\n");
+        assert_eq!(
+            erased("#[derive(Clone, Copy)]\nstruct A;\n"),
+            "#[derive(Clone, Copy)]\nstruct A;\n"
+        );
+    }
+
+    #[test]
+    fn derives_without_bounds() {
+        let impls = "impl<'a, T> Clone for A<'a, T> {\n    #[inline(always)]\n    fn clone(&self) -> Self {\n        *self\n    }\n}\n\n\
+                     impl<'a, T> Copy for A<'a, T> {}\n";
+        assert_eq!(
+            erased("/// A.\n#[derive_where(Clone, Copy)]\nstruct A<'a, T>(&'a T);\n"),
+            format!("/// A.\nstruct A<'a, T>(&'a T);\n\n{impls}")
+        );
+    }
+
+    #[test]
+    fn attributes_that_are_not_known() {
+        assert_eq!(
+            refused("#[derive(Hash)]\nstruct A;").1,
+            "`Hash`: nothing that is known to be derived"
+        );
+        assert_eq!(refused("#[cfg(x)]\nstruct A;").1, "`cfg`: an attribute that isn't known");
+        assert_eq!(
+            refused("#![feature(x)]").1,
+            "`feature`: an attribute of a file that isn't known"
+        );
+        assert_eq!(
+            refused("#[derive_where(Debug)]\nstruct A<T>(T);").1,
+            "`)`: only Clone and Copy are known without bounds"
+        );
     }
 }

@@ -54,7 +54,9 @@ fn slices_of(tokens: &[Token], keyword: usize) -> BTreeSet<String> {
     let is_slice = |index: &usize| {
         let at = index + 2;
         let at = at + usize::from(tokens[at].kind == Kind::Lifetime);
-        tokens[index + 1].text == "&" && tokens[at].text == "[" && !has_length(&tokens[at..=tokens[at].close])
+        tokens[index + 1].text == "&"
+            && tokens[at].text == "["
+            && !has_length(&tokens[at..=tokens[at].close])
     };
     let colons = fields.filter(|index| tokens[*index].text == ":").filter(is_slice);
     colons.map(|colon| tokens[colon - 1].text.into()).collect()
@@ -85,7 +87,9 @@ impl Eraser<'_> {
 
     /// A value of such a struct, whose fields are in braces after its name.
     pub fn struct_value(&mut self, name: usize) {
-        let Some(slices) = self.names.c_structs().slices_of(self.text_at(name)).cloned() else { return };
+        let Some(slices) = self.names.c_structs().slices_of(self.text_at(name)).cloned() else {
+            return;
+        };
         let (mut index, close) = (name + 2, self.tokens[name + 1].close);
         while index < close {
             let field = self.tokens[index];
@@ -103,5 +107,54 @@ impl Eraser<'_> {
             }
             index = end + 1;
         }
+    }
+}
+
+#[cfg(test)]
+mod tests {
+    use super::*;
+    use crate::{erase, Names};
+
+    const STRUCT: &str =
+        "#[repr(C)]\nstruct A<'a> {\n    x: &'a [B<'a>],\n    y: &'a [u8; 4],\n}\n";
+
+    fn erased(source: &str) -> String {
+        erase(source, &Names::new().with_c_structs(CStructs::of(STRUCT).unwrap())).unwrap()
+    }
+
+    #[test]
+    fn fields_that_are_slices() {
+        assert_eq!(
+            CStructs::of(STRUCT).unwrap().slices_of("A").unwrap().iter().collect::<Vec<_>>(),
+            ["x"]
+        );
+        assert_eq!(erased(STRUCT), STRUCT.replace("&'a [B<'a>]", "rattle::ffi::Slice<'a, B<'a>>"));
+        assert_eq!(CStructs::of(&STRUCT.replace("#[repr(C)]\n", "")).unwrap(), CStructs::default());
+    }
+
+    #[test]
+    fn fields_that_are_read() {
+        assert_eq!(
+            erased("fn f(a: A) {\n    a.x.len() + a.y + a.x()\n}\n"),
+            "fn f(a: A) {\n    a.x.slice().len() + a.y + a.x()\n}\n"
+        );
+    }
+
+    #[test]
+    fn values() {
+        assert_eq!(
+            erased("fn f(x: u8) {\n    A { x, y }\n}\n"),
+            "fn f(x: u8) {\n    A { x: rattle::ffi::Slice::from(x), y }\n}\n"
+        );
+        assert_eq!(
+            erased("fn f() {\n    A { y, x: &b[c] }\n}\n"),
+            "fn f() {\n    A { y, x: rattle::ffi::Slice::from(&b[c]) }\n}\n"
+        );
+    }
+
+    #[test]
+    fn sources_without_such_a_struct_stay() {
+        let source = "fn f(b: B) {\n    b.x.len()\n}\n";
+        assert_eq!(erased(source), source);
     }
 }

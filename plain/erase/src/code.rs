@@ -76,7 +76,8 @@ impl<'a> Eraser<'a> {
         let close = self.tokens[self.tokens[self.at + 1].close];
         let is_text = self.text(2) == "str" && self.text_at(name) == "from_utf8_unchecked";
         if is_text && self.tokens[name + 1].close + 1 == self.tokens[self.at + 1].close {
-            self.edits.replace(keyword.at..self.tokens[name].end(), "rattle::str::from_proved_utf8");
+            self.edits
+                .replace(keyword.at..self.tokens[name].end(), "rattle::str::from_proved_utf8");
             self.edits.delete(self.tokens[self.tokens[name + 1].close].end()..close.end());
         } else if !self.foreign.contains(self.text(2)) {
             return self.refuse("nothing unsafe that is known");
@@ -138,7 +139,8 @@ impl<'a> Eraser<'a> {
         if index >= range.end {
             return;
         }
-        let (first, semicolon, next) = (self.tokens[range.start], self.tokens[index], self.tokens[index + 1]);
+        let (first, semicolon, next) =
+            (self.tokens[range.start], self.tokens[index], self.tokens[index + 1]);
         let is_on_line = !self.source[semicolon.end()..next.at].contains('\n');
         self.edits.delete(first.at..if is_on_line { next.at } else { semicolon.end() });
     }
@@ -151,7 +153,9 @@ impl<'a> Eraser<'a> {
             return Ok(());
         }
         self.used.insert(token.text);
-        if let Some(name) = ["Alloc", "HostRuntime", "String", "Vec"].into_iter().find(|name| *name == token.text) {
+        if let Some(name) =
+            ["Alloc", "HostRuntime", "String", "Vec"].into_iter().find(|name| *name == token.text)
+        {
             self.prelude.insert(name);
         }
         if self.text_at(index + 1) != "::" {
@@ -166,5 +170,106 @@ impl<'a> Eraser<'a> {
             }
         }
         Ok(())
+    }
+}
+
+#[cfg(test)]
+mod tests {
+    use crate::tests;
+    use crate::{erase, Names};
+
+    // The body of a function that has this one, without what is imported for it.
+    fn erased(body: &str) -> String {
+        let out = tests::erased(&format!("fn f() {{\n    {body}\n}}\n"));
+        let from = out.find("{\n    ").unwrap() + 6;
+        out[from..out.len() - 3].into()
+    }
+
+    fn refused(body: &str) -> String {
+        tests::refused(&format!("fn f() {{\n    {body}\n}}\n")).1
+    }
+
+    #[test]
+    fn macros_that_end_the_program() {
+        assert_eq!(erased("assert!(rt; x == [0; 2]);"), "assert!(x == [0; 2]);");
+        assert_eq!(erased("assert!(x == [0; 2]);"), "assert!(x == [0; 2]);");
+        assert_eq!(erased("assert!(rt;\n        x\n    );"), "assert!(\n        x\n    );");
+        assert_eq!(erased("panic!(rt; \"{x}\")"), "panic!(\"{x}\")");
+    }
+
+    #[test]
+    fn macros_that_ask_for_memory() {
+        assert_eq!(erased("vec![in alloc; 0; n]?;"), "rattle::vec_in![alloc; 0; n]?;");
+        assert_eq!(
+            erased("format!(in rt.alloc(); \"{x}\")?;"),
+            "rattle::format_in!(rt.alloc(); \"{x}\")?;"
+        );
+        assert_eq!(refused("vec![0; n];"), "`vec`: an allocator is due, as in `in alloc;`");
+    }
+
+    #[test]
+    fn what_is_proved_is_tested_in_debug_builds() {
+        assert_eq!(erased("prove!(x.is_ok());"), "debug_assert!(x.is_ok());");
+    }
+
+    #[test]
+    fn macros_of_others() {
+        assert_eq!(
+            erased("write!(f, \"{x}\")?; if !(a) {} matches!(x, Y)"),
+            "write!(f, \"{x}\")?; if !(a) {} matches!(x, Y)"
+        );
+        assert_eq!(refused("println!(\"x\");"), "`println`: a macro that isn't known");
+    }
+
+    #[test]
+    fn calls_that_ask_for_memory() {
+        assert_eq!(
+            erased("x.collect::<Vec<u8>>(alloc)?; x.to_string(alloc);"),
+            "x.collect_in::<Vec<u8>>(alloc)?; x.to_string_in(alloc);"
+        );
+        assert_eq!(erased("x.collect(); x.to_string();"), "x.collect(); x.to_string();");
+    }
+
+    #[test]
+    fn labels_of_proofs() {
+        assert_eq!(erased("'all: for x in y {}"), "for x in y {}");
+        assert_eq!(erased("'all: loop { break 'all; }"), "'all: loop { break 'all; }");
+    }
+
+    #[test]
+    fn texts_that_are_proved() {
+        assert_eq!(
+            erased("unsafe { str::from_utf8_unchecked(&x[y]) }"),
+            "rattle::str::from_proved_utf8(&x[y])"
+        );
+        assert_eq!(refused("unsafe { *x }"), "`unsafe`: nothing unsafe that is known");
+        let source = "unsafe extern \"C\" {\n    fn g();\n}\n\nfn f() {\n    unsafe { g() }\n}\n";
+        assert_eq!(tests::erased(source), source);
+    }
+
+    #[test]
+    fn items_in_bodies() {
+        assert_eq!(erased("fn g()\n        ensures { x }\n    {\n    }\n"), "fn g() {\n    }\n");
+        assert_eq!(refused("ghost x = { y };"), "`ghost`: no contract is known within a body");
+    }
+
+    #[test]
+    fn paths() {
+        let names = Names::new().own("crate::a").other("b", "crate::b");
+        let erased = |source| erase(source, &names).unwrap();
+        assert_eq!(
+            erased("use std::fmt;\nuse crate::x;\nuse b::Y;\nuse c::Z;\n"),
+            "use core::fmt;\nuse crate::a::x;\nuse crate::b::Y;\nuse c::Z;\n"
+        );
+        assert_eq!(
+            erased("fn f() -> std::io::Result {\n    x.b::<u8>(hex::decode, y::hex::z)\n}\n")
+                .lines()
+                .nth(1),
+            Some("    x.b::<u8>(rattle::hex::decode, y::hex::z)")
+        );
+        assert_eq!(
+            tests::refused("use std::net::X;\n").1,
+            "`std`: std::net is neither Rust's nor the stand-in's"
+        );
     }
 }

@@ -67,7 +67,9 @@ fn close_up(out: &mut String, rest: &str) -> usize {
     out.truncate(out.len() - indent);
     let mut gone = (line.len() + 1).min(rest.len());
     let begins = out.is_empty() || out.ends_with("\n\n") || out.trim_end().ends_with('{');
-    while let Some((line, _)) = rest[gone..].split_once('\n').filter(|(line, _)| begins && blank(line)) {
+    while let Some((line, _)) =
+        rest[gone..].split_once('\n').filter(|(line, _)| begins && blank(line))
+    {
         gone += line.len() + 1;
     }
     let next = rest[gone..].trim_start();

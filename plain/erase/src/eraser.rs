@@ -2,7 +2,7 @@
 
 use crate::edits::Edits;
 use crate::imports::Import;
-use crate::token::{tokens, Kind, Token};
+use crate::token::{tokens_and_docs, Kind, Token};
 use crate::{Names, Refusal};
 use std::collections::BTreeSet;
 use std::ops::Range;
@@ -11,6 +11,8 @@ use std::ops::Range;
 pub(crate) struct Eraser<'a> {
     pub source: &'a str,
     pub tokens: Vec<Token<'a>>,
+    /// Where the doc comments are.
+    pub docs: Vec<Range<usize>>,
     pub at: usize,
     pub edits: Edits,
     pub names: &'a Names,
@@ -26,6 +28,8 @@ pub(crate) struct Eraser<'a> {
     pub front: Option<(usize, bool)>,
     /// The imports of the source.
     pub imports: Vec<Import>,
+    /// Constants whose imports go, with their paths.
+    pub gone: Vec<(&'a str, String)>,
     /// Words of contracts, which go.
     pub said: BTreeSet<&'a str>,
     /// Words of what stays.
@@ -34,12 +38,13 @@ pub(crate) struct Eraser<'a> {
 
 impl<'a> Eraser<'a> {
     pub fn new(source: &'a str, names: &'a Names) -> Result<Self, Refusal> {
-        let tokens = tokens(source)?;
+        let (tokens, docs) = tokens_and_docs(source)?;
         let slices = tokens.iter().filter_map(|token| names.c_structs().slices_of(token.text));
         Ok(Eraser {
             source,
             c_fields: slices.flatten().map(String::as_str).collect(),
             tokens,
+            docs,
             at: 0,
             edits: Edits::default(),
             names,
@@ -48,6 +53,7 @@ impl<'a> Eraser<'a> {
             foreign: BTreeSet::new(),
             front: None,
             imports: Vec::new(),
+            gone: Vec::new(),
             said: BTreeSet::new(),
             used: BTreeSet::new(),
         })

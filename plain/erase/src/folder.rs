@@ -15,7 +15,12 @@ pub enum Root {
 
 /// Erases each `.rt` file of a folder and those within it, and each `.rt.in` file, which is a test: the sources that were
 /// read. Files of laws are left out, as they are proofs.
-pub fn erase_folder(source: &Path, target: &Path, root: Root, names: &Names) -> Result<Vec<PathBuf>, Refusal> {
+pub fn erase_folder(
+    source: &Path,
+    target: &Path,
+    root: Root,
+    names: &Names,
+) -> Result<Vec<PathBuf>, Refusal> {
     let mut read = Vec::new();
     for file in files(source)? {
         let inner = file.strip_prefix(source).unwrap_or(&file);
@@ -25,7 +30,8 @@ pub fn erase_folder(source: &Path, target: &Path, root: Root, names: &Names) -> 
             _ => stem,
         };
         let text = fs::read_to_string(&file).map_err(|error| Refusal::of_file(&file, error))?;
-        let erased = erase(&text, names).map_err(|refusal| Refusal { file: file.clone(), ..refusal })?;
+        let erased =
+            erase(&text, names).map_err(|refusal| Refusal { file: file.clone(), ..refusal })?;
         let out = target.join(stem).with_extension("rs");
         let folder = out.parent().unwrap_or(target);
         fs::create_dir_all(folder).map_err(|error| Refusal::of_file(folder, error))?;
@@ -33,6 +39,12 @@ pub fn erase_folder(source: &Path, target: &Path, root: Root, names: &Names) -> 
         read.push(file);
     }
     Ok(read)
+}
+
+/// The declarations of modules whose sources lie in a folder, for a build script to write where a crate includes them.
+pub fn modules(erased: &Path, names: &[&str]) -> String {
+    let roots = names.iter().map(|name| (name, erased.join(name).join("mod.rs")));
+    roots.map(|(name, root)| format!("#[path = {root:?}]\npub mod {name};\n")).collect()
 }
 
 /// The structs that C fills in the sources of a folder.

@@ -47,8 +47,9 @@ impl<'a> Eraser<'a> {
     fn mark_unused(&mut self, signature: &Signature, body: Range<usize>) {
         for name in signature.parameters.clone() {
             let token = self.tokens[name];
-            let is_name = self.text_at(name + 1) == ":" && ["(", ","].contains(&self.text_at(name - 1));
-            if !is_name || !self.said.contains(token.text) {
+            let is_name =
+                self.text_at(name + 1) == ":" && ["(", ","].contains(&self.text_at(name - 1));
+            if !is_name || token.text.starts_with('_') || !self.said.contains(token.text) {
                 continue;
             }
             if !body.clone().any(|index| self.names_value(index, token.text)) {
@@ -98,12 +99,28 @@ impl<'a> Eraser<'a> {
         }
         let parameters = self.group("(")?;
         const STOPS: [&str; 5] = ["where", "requires", "ensures", "{", ";"];
+        let answers = self.takes("->");
         self.go_to(&STOPS, self.tokens.len())?;
+        let is_type_alone = self.at == parameters.end + 1 || answers && !self.ends_with_clause();
+        if !is_type_alone {
+            self.at -= 1;
+            return self.refuse("no clause that is known");
+        }
         let has_where = self.text(0) == "where";
         if has_where {
             self.go_to(&STOPS[1..], self.tokens.len())?;
         }
         Ok(Signature { name, parameters, has_where, end: self.at })
+    }
+
+    // Whether a name stands after the type that ends here, as that of a clause does.
+    fn ends_with_clause(&self) -> bool {
+        const BEFORE_NAMES: [&str; 4] = ["dyn", "impl", "mut", "const"];
+        let ends_type = |text: &str| [">", ")", "]"].contains(&text);
+        let (last, before) = (self.at - 1, self.at - 2);
+        let is_after = self.kind_at(before) == Some(Kind::Word)
+            && !BEFORE_NAMES.contains(&self.text_at(before));
+        self.kind_at(last) == Some(Kind::Word) && (is_after || ends_type(self.text_at(before)))
     }
 
     // `requires {..}` and `ensures NAME {..}`, which go.
@@ -169,11 +186,16 @@ impl<'a> Eraser<'a> {
             return self.refuse("a test takes `rt: HostRuntime`");
         }
         let name = self.tokens[signature.name];
-        let answer = self.source[self.tokens[signature.parameters.end].end()..self.tokens[signature.end].at].trim();
+        let answer = self.source
+            [self.tokens[signature.parameters.end].end()..self.tokens[signature.end].at]
+            .trim();
         let answer = if answer.is_empty() { String::new() } else { format!(" {answer}") };
         self.edits.replace(
             name.at..name.end(),
-            format!("{0}(){answer} {{\n    rattle::test::run({0}_with)\n}}\n\nfn {0}_with", name.text),
+            format!(
+                "{0}(){answer} {{\n    rattle::test::run({0}_with)\n}}\n\nfn {0}_with",
+                name.text
+            ),
         );
         self.prelude.insert(RUNTIME);
         Ok(())
@@ -182,5 +204,90 @@ impl<'a> Eraser<'a> {
     /// Whether a function stands at a token, and not the type of one.
     pub fn is_function(&self, index: usize) -> bool {
         self.text_at(index) == "fn" && self.kind_at(index + 1) == Some(Kind::Word)
+    }
+}
+
+#[cfg(test)]
+mod tests {
+    use crate::tests::{erased, refused};
+
+    #[test]
+    fn contracts() {
+        let source = "fn f(x: u8) -> u8\n    requires { x ≤ 1 }\n    ensures same { result ≡ x }\n{\n    x\n}\n";
+        assert_eq!(erased(source), "fn f(x: u8) -> u8 {\n    x\n}\n");
+        assert_eq!(
+            erased("trait A {\n    fn f(&self)\n        ensures { x };\n}\n"),
+            "trait A {\n    fn f(&self);\n}\n"
+        );
+    }
+
+    #[test]
+    fn contracts_after_bounds() {
+        assert_eq!(
+            erased("fn f<F>(f: F)\nwhere\n    F: Fn() + Drop,\n    requires { x }\n{\n}\n"),
+            "fn f<F>(f: F)\nwhere\n    F: Fn(),\n{\n}\n"
+        );
+        assert_eq!(
+            erased("trait A {\n    fn f<F>(f: F)\n    where\n        F: Fn(),\n        requires { x };\n}\n"),
+            "trait A {\n    fn f<F>(f: F)\n    where\n        F: Fn();\n}\n"
+        );
+    }
+
+    #[test]
+    fn functions_that_are_final() {
+        assert_eq!(
+            erased("trait A {\n    final fn f(&self) {}\n}\n"),
+            "trait A {\n    fn f(&self) {}\n}\n"
+        );
+    }
+
+    #[test]
+    fn formatters() {
+        assert_eq!(
+            erased("impl fmt::Display for A {\n    fn fmt<W: fmt::Write>(&self, f: &mut fmt::Formatter<W>) -> fmt::Result {\n        x\n    }\n}\n"),
+            "impl fmt::Display for A {\n    fn fmt(&self, f: &mut fmt::Formatter<'_>) -> fmt::Result {\n        x\n    }\n}\n"
+        );
+    }
+
+    #[test]
+    fn parameters_of_contracts_alone() {
+        assert_eq!(
+            erased("fn f(x: u8, y: u8)\n    ensures { x ≡ y }\n{\n    y.x;\n}\n"),
+            "fn f(_x: u8, y: u8) {\n    y.x;\n}\n"
+        );
+        assert_eq!(
+            erased("fn f(x: u8)\n    ensures { x }\n{\n    0..x;\n}\n"),
+            "fn f(x: u8) {\n    0..x;\n}\n"
+        );
+    }
+
+    #[test]
+    fn tests_and_programs() {
+        assert_eq!(
+            erased("#[test]\nfn t(rt: HostRuntime) -> Result<(), E> {\n    x\n}\n"),
+            "use rattle::prelude::HostRuntime;\n\n#[test]\nfn t() -> Result<(), E> {\n    rattle::test::run(t_with)\n}\n\n\
+             fn t_with(rt: HostRuntime) -> Result<(), E> {\n    x\n}\n"
+        );
+        assert_eq!(
+            erased("fn main(rt: HostRuntime) -> ExitCode {\n    x\n}\n"),
+            "use rattle::prelude::HostRuntime;\n\nfn main() -> ExitCode {\n    let rt = HostRuntime;\n    x\n}\n"
+        );
+        assert_eq!(refused("#[test]\nfn t(x: u8) {}").1, "`x`: a test takes `rt: HostRuntime`");
+    }
+
+    #[test]
+    fn functions_that_stay() {
+        for source in [
+            "const fn f() {}\n",
+            "pub(crate) fn f<'a, T: A<B<T>>>(x: &'a T) -> impl Fn() + 'a {\n    x\n}\n",
+        ] {
+            assert_eq!(erased(source), source);
+        }
+        assert_eq!(refused("async fn f() {}").1, "`async`: no item that is known");
+        assert_eq!(
+            refused("fn f()\n    invariant { x }\n{}"),
+            (2, "`invariant`: no clause that is known".into())
+        );
+        assert_eq!(refused("fn f() -> A<B>\n    invariant { x }\n{}").0, 2);
     }
 }

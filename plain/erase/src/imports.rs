@@ -67,8 +67,14 @@ impl<'a> Eraser<'a> {
     /// Takes out what no code uses: `Model`, and constants that contracts alone name.
     pub fn clean_imports(&mut self) {
         for import in std::mem::take(&mut self.imports) {
-            let kept = import.leaves.iter().filter(|leaf| !self.is_of_contracts(leaf));
-            let kept: Vec<&str> = kept.map(|leaf| self.texts(leaf)).collect();
+            let (gone, kept): (Vec<_>, Vec<_>) =
+                import.leaves.iter().partition(|leaf| self.is_of_contracts(leaf));
+            let kept: Vec<&str> = kept.into_iter().map(|leaf| self.texts(leaf)).collect();
+            let gone: Vec<_> = gone
+                .into_iter()
+                .map(|leaf| (self.texts(leaf), self.path_to(&import, leaf)))
+                .collect();
+            self.gone.extend(gone);
             let names = self.tokens[import.names.start].at..self.tokens[import.names.end - 1].end();
             match kept[..] {
                 _ if kept.len() == import.leaves.len() => {}
@@ -82,13 +88,59 @@ impl<'a> Eraser<'a> {
         }
     }
 
+    // The path of what is imported, as it becomes. It was refused before where it isn't known.
+    fn path_to(&self, import: &Import, leaf: &Range<usize>) -> String {
+        let begin = import.first + 1;
+        let first = self.text_at(begin);
+        let becomes = self.names.first(first, self.text_at(begin + 2)).ok().flatten();
+        let rest: String =
+            (begin + 1..import.names.start).map(|index| self.text_at(index)).collect();
+        format!("{}{rest}{}", becomes.as_deref().unwrap_or(first), self.texts(leaf))
+    }
+
     fn is_of_contracts(&self, leaf: &Range<usize>) -> bool {
         let name = self.text_at(leaf.end - 1);
-        let is_constant = name.chars().all(|c| c == '_' || c.is_ascii_uppercase() || c.is_ascii_digit());
+        let is_constant =
+            name.chars().all(|c| c == '_' || c.is_ascii_uppercase() || c.is_ascii_digit());
         name == "Model" || is_constant && self.said.contains(name) && !self.used.contains(name)
     }
 
     fn texts(&self, range: &Range<usize>) -> &'a str {
         &self.source[self.tokens[range.start].at..self.tokens[range.end - 1].end()]
+    }
+}
+
+#[cfg(test)]
+mod tests {
+    use crate::tests::erased;
+
+    #[test]
+    fn models() {
+        assert_eq!(erased("use std::marker::Model;\nuse a::B;\n"), "use a::B;\n");
+        assert_eq!(
+            erased("use std::marker::{Model, PhantomData};\n"),
+            "use core::marker::PhantomData;\n"
+        );
+    }
+
+    #[test]
+    fn constants_of_contracts() {
+        let used = "fn f(x: u8)\n    requires { x ≤ MAX }\n{\n    x;\n}\n";
+        assert_eq!(
+            erased(&format!("use a::{{B, C, MAX}};\n\n{used}")),
+            "use a::{B, C};\n\nfn f(x: u8) {\n    x;\n}\n"
+        );
+        assert_eq!(
+            erased(&format!("use a::MAX;\nuse a::B;\n\n{used}")),
+            "use a::B;\n\nfn f(x: u8) {\n    x;\n}\n"
+        );
+    }
+
+    #[test]
+    fn constants_that_code_names_stay() {
+        let source = "use a::{B, MAX};\n\nfn f(x: [u8; MAX]) {}\n";
+        assert_eq!(erased(source), source);
+        let public = "pub use a::{B, MAX};\n";
+        assert_eq!(erased(public), public);
     }
 }

@@ -298,7 +298,8 @@ impl<'a> Eraser<'a> {
     fn foreign(&mut self) -> Result<(), Refusal> {
         self.at += 3;
         let inner = self.at..self.tokens[self.at].close;
-        let names = inner.filter(|index| self.text_at(index - 1) == "fn").map(|index| self.text_at(index));
+        let names =
+            inner.filter(|index| self.text_at(index - 1) == "fn").map(|index| self.text_at(index));
         self.foreign.extend(names.collect::<Vec<_>>());
         self.block_of_items()
     }
@@ -320,11 +321,91 @@ impl<'a> Eraser<'a> {
                 };
                 self.edits.delete(range);
             }
-            if self.kind_at(index) == Some(Kind::Word) && ["ghost", "requires", "ensures"].contains(&self.text_at(index)) {
+            if self.kind_at(index) == Some(Kind::Word)
+                && ["ghost", "requires", "ensures"].contains(&self.text_at(index))
+            {
                 self.at = index;
                 return self.refuse("no contract is known here");
             }
         }
         Ok(())
+    }
+}
+
+#[cfg(test)]
+mod tests {
+    use crate::tests::{erased, refused};
+
+    #[test]
+    fn ghost_items() {
+        assert_eq!(erased("ghost use A.B.{◌≡◌, x};\n\nuse c::D;\n"), "use c::D;\n");
+        assert_eq!(
+            erased("trait A {\n    /// A law.\n    ghost law: { Self → Law };\n\n    fn f(&self);\n}\n"),
+            "trait A {\n    fn f(&self);\n}\n"
+        );
+        assert_eq!(erased("impl A for B {\n    ghost law = { λ x. x };\n}\n"), "impl A for B {}\n");
+        assert_eq!(refused("\nghost fn f() {}"), (2, "`f`: `=` is due".into()));
+    }
+
+    #[test]
+    fn ghost_fields() {
+        assert_eq!(
+            erased("struct A<'a> {\n    x: &'a [u8],\n    ghost short: { x < y },\n}\n"),
+            "struct A<'a> {\n    x: &'a [u8],\n}\n"
+        );
+        assert_eq!(
+            erased("struct A<S = (u8, u8)> {\n    x: B<C, S>,\n    ghost y: { z },\n}\n"),
+            "struct A<S = (u8, u8)> {\n    x: B<C, S>,\n}\n"
+        );
+    }
+
+    #[test]
+    fn models() {
+        assert_eq!(
+            erased("struct A;\n\n// Shown.\nimpl<'a> Model for B<'a> {\n    ghost view = { x };\n}\n\nstruct C;\n"),
+            "struct A;\n\nstruct C;\n"
+        );
+    }
+
+    #[test]
+    fn laws() {
+        assert_eq!(
+            erased("pub mod io;\npub mod laws;\n\npub use io::A;\n"),
+            "pub mod io;\n\npub use io::A;\n"
+        );
+    }
+
+    #[test]
+    fn items_that_stay() {
+        for source in [
+            "mod a {\n    pub const B: u8 = 1;\n}\n",
+            "pub(crate) enum A {\n    B = b'x' as isize,\n    C { d: u8 },\n    E(u8),\n}\n",
+            "pub struct A(pub u8);\n",
+            "type A<'a> = &'a [u8];\n",
+            "static A: u8 = 0;\n",
+            "macro_rules! m {\n    ($x:expr) => {\n        $x\n    };\n}\n",
+            "unsafe extern \"C\" {\n    fn f(x: u8);\n}\n",
+        ] {
+            assert_eq!(erased(source), source);
+        }
+    }
+
+    #[test]
+    fn bounds_by_drop() {
+        assert_eq!(erased("trait A: Drop {}"), "trait A {}");
+        assert_eq!(erased("trait A: Sized + Drop {}"), "trait A: Sized {}");
+        assert_eq!(erased("impl<T: Drop> A for B<T> {}"), "impl<T> A for B<T> {}");
+        assert_eq!(erased("impl<T: Drop + Copy> A for B<T> {}"), "impl<T: Copy> A for B<T> {}");
+    }
+
+    #[test]
+    fn what_is_not_known() {
+        assert_eq!(
+            refused("impl Drop for A {}").1,
+            "`Drop`: what runs where a value is dropped isn't known to the eraser"
+        );
+        assert_eq!(refused("union A { b: u8 }").1, "`union`: no item that is known");
+        assert_eq!(refused("struct A(ghost);").1, "`ghost`: no contract is known here");
+        assert_eq!(refused("use a::b\nfn").1, "the end: one of `;` is due");
     }
 }

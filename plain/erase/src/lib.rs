@@ -11,6 +11,7 @@
 mod attributes;
 mod c_structs;
 mod code;
+mod docs;
 mod edits;
 mod eraser;
 mod exports;
@@ -23,7 +24,7 @@ mod refusal;
 mod token;
 
 pub use c_structs::CStructs;
-pub use folder::{c_structs_of_folder, erase_folder, Root};
+pub use folder::{c_structs_of_folder, erase_folder, modules, Root};
 pub use names::Names;
 pub use refusal::Refusal;
 
@@ -34,6 +35,7 @@ pub fn erase(source: &str, names: &Names) -> Result<String, Refusal> {
     let mut eraser = Eraser::new(source, names)?;
     eraser.file()?;
     eraser.clean_imports();
+    eraser.link_docs()?;
     let imports: Vec<&str> = eraser.prelude.iter().copied().collect();
     let line = match imports[..] {
         [] => return Ok(eraser.edits.apply(source)),
@@ -44,4 +46,45 @@ pub fn erase(source: &str, names: &Names) -> Result<String, Refusal> {
         eraser.edits.insert(at, if is_use { line } else { line + "\n" });
     }
     Ok(eraser.edits.apply(source))
+}
+
+#[cfg(test)]
+mod tests {
+    use super::*;
+    use std::path::Path;
+
+    /// What comes out of a source.
+    pub fn erased(source: &str) -> String {
+        erase(source, &Names::new()).unwrap()
+    }
+
+    /// The line of what is refused, and why.
+    pub fn refused(source: &str) -> (usize, String) {
+        let refusal = erase(source, &Names::new()).unwrap_err();
+        (refusal.line, refusal.why)
+    }
+
+    #[test]
+    fn names_without_an_import_are_imported() {
+        assert_eq!(
+            erased("//! Doc.\n\nmod x;\n\nuse a::B;\n\nfn f(v: Vec<B>) {}\n"),
+            "//! Doc.\n\nmod x;\n\nuse rattle::prelude::Vec;\nuse a::B;\n\nfn f(v: Vec<B>) {}\n"
+        );
+        assert_eq!(
+            erased("/// F.\nfn f(v: Vec<String>) {}\n"),
+            "use rattle::prelude::{String, Vec};\n\n/// F.\nfn f(v: Vec<String>) {}\n"
+        );
+    }
+
+    #[test]
+    fn modules_are_declared() {
+        assert_eq!(modules(Path::new("/x"), &["a"]), "#[path = \"/x/a/mod.rs\"]\npub mod a;\n");
+    }
+
+    #[test]
+    fn a_refusal_says_where() {
+        let refusal = erase("\n\nfoo", &Names::new()).unwrap_err();
+        let refusal = Refusal { file: "x.rt".into(), ..refusal };
+        assert_eq!(refusal.to_string(), "x.rt:3: `foo`: no item that is known");
+    }
 }

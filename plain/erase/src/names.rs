@@ -12,7 +12,8 @@ pub struct Names {
 }
 
 /// Modules of std that are Rust's.
-const OF_CORE: [&str; 11] = ["cell", "cmp", "error", "fmt", "iter", "marker", "mem", "num", "ops", "slice", "str"];
+const OF_CORE: [&str; 11] =
+    ["cell", "cmp", "error", "fmt", "iter", "marker", "mem", "num", "ops", "slice", "str"];
 
 /// Modules of std that the stand-in has.
 const OF_RATTLE: [&str; 6] = ["alloc", "env", "io", "process", "simd", "test"];
@@ -22,7 +23,12 @@ const CRATES: [&str; 7] = ["base64", "byteorder", "bytes", "hex", "itoa", "memch
 
 impl Default for Names {
     fn default() -> Self {
-        Names { own: "crate".into(), shared: None, others: Vec::new(), c_structs: CStructs::default() }
+        Names {
+            own: "crate".into(),
+            shared: None,
+            others: Vec::new(),
+            c_structs: CStructs::default(),
+        }
     }
 }
 

@@ -1,6 +1,7 @@
 //! The tokens of a source.
 
 use crate::Refusal;
+use std::ops::Range;
 
 /// What a token is.
 #[derive(Clone, Copy, Debug, PartialEq, Eq)]
@@ -38,7 +39,14 @@ const LONG_MARKS: [&str; 3] = ["::", "->", "=>"];
 
 /// The tokens of a source without its comments. Brackets must match.
 pub(crate) fn tokens(source: &str) -> Result<Vec<Token<'_>>, Refusal> {
-    let mut tokens: Vec<Token> = Vec::new();
+    tokens_and_docs(source).map(|(tokens, _)| tokens)
+}
+
+/// The tokens, and the places of doc comments.
+pub(crate) fn tokens_and_docs(
+    source: &str,
+) -> Result<(Vec<Token<'_>>, Vec<Range<usize>>), Refusal> {
+    let (mut tokens, mut docs): (Vec<Token>, Vec<Range<usize>>) = Default::default();
     let mut opened = Vec::new();
     let (mut at, mut leads) = (0, None);
     while let Some(first) = source[at..].chars().next() {
@@ -52,20 +60,29 @@ pub(crate) fn tokens(source: &str) -> Result<Vec<Token<'_>>, Refusal> {
             continue;
         }
         if rest.starts_with("//") || rest.starts_with("/*") {
-            let after_code = tokens.last().is_some_and(|last| !source[last.end()..at].contains('\n'));
+            let after_code =
+                tokens.last().is_some_and(|last| !source[last.end()..at].contains('\n'));
             if rest.starts_with("//!") || after_code {
                 leads = None;
             } else {
                 leads = leads.or(Some(at));
             }
-            at += comment(rest).ok_or_else(|| Refusal::at(source, at, "a comment without an end"))?;
+            let len =
+                comment(rest).ok_or_else(|| Refusal::at(source, at, "a comment without an end"))?;
+            if rest.starts_with("///") || rest.starts_with("//!") {
+                docs.push(at..at + len);
+            }
+            at += len;
             continue;
         }
-        let (kind, len) = token(rest).ok_or_else(|| Refusal::at(source, at, "a literal without an end"))?;
+        let (kind, len) =
+            token(rest).ok_or_else(|| Refusal::at(source, at, "a literal without an end"))?;
         let text = &rest[..len];
         let index = tokens.len();
         if kind == Kind::Close {
-            let open: usize = opened.pop().ok_or_else(|| Refusal::at(source, at, "a bracket that closes none"))?;
+            let open: usize = opened
+                .pop()
+                .ok_or_else(|| Refusal::at(source, at, "a bracket that closes none"))?;
             if !matches!((tokens[open].text, text), ("(", ")") | ("[", "]") | ("{", "}")) {
                 return Err(Refusal::at(source, at, "a bracket that closes another kind"));
             }
@@ -79,7 +96,7 @@ pub(crate) fn tokens(source: &str) -> Result<Vec<Token<'_>>, Refusal> {
     }
     match opened.pop() {
         Some(open) => Err(Refusal::at(source, tokens[open].at, "a bracket that nothing closes")),
-        None => Ok(tokens),
+        None => Ok((tokens, docs)),
     }
 }
 
@@ -202,12 +219,18 @@ mod tests {
 
     #[test]
     fn words_and_marks() {
-        assert_eq!(texts("a::b -> x.0..=9 1.5"), ["a", "::", "b", "->", "x", ".", "0", ".", ".", "=", "9", "1.5"]);
+        assert_eq!(
+            texts("a::b -> x.0..=9 1.5"),
+            ["a", "::", "b", "->", "x", ".", "0", ".", ".", "=", "9", "1.5"]
+        );
     }
 
     #[test]
     fn literals() {
-        assert_eq!(texts(r##"b"a\"}" r#"}"# '{' b'\'' '\u{7d}'"##), [r#"b"a\"}""#, r##"r#"}"#"##, "'{'", r"b'\''", r"'\u{7d}'"]);
+        assert_eq!(
+            texts(r##"b"a\"}" r#"}"# '{' b'\'' '\u{7d}'"##),
+            [r#"b"a\"}""#, r##"r#"}"#"##, "'{'", r"b'\''", r"'\u{7d}'"]
+        );
     }
 
     #[test]

@@ -21,14 +21,16 @@ pub mod engine {
         pub static STANDARD: Engine = Engine { config: base64_crate::STANDARD, is_padded: true };
 
         /// The standard alphabet, without padding.
-        pub static STANDARD_NO_PAD: Engine = Engine { config: base64_crate::STANDARD_NO_PAD, is_padded: false };
+        pub static STANDARD_NO_PAD: Engine =
+            Engine { config: base64_crate::STANDARD_NO_PAD, is_padded: false };
 
         impl Engine {
             /// Decodes a text to the front of `out`: how many bytes they are.
             pub fn decode_slice(&self, text: &[u8], out: &mut [u8]) -> Result<usize, DecodeError> {
                 let padding = text.iter().rev().take(2).filter(|byte| **byte == b'=').count();
                 // The crate's version 0.13 takes a text with padding and without, and panics where room is short.
-                let is_whole = if self.is_padded { text.len() % 4 == 0 } else { padding == 0 };
+                let is_whole =
+                    if self.is_padded { text.len().is_multiple_of(4) } else { padding == 0 };
                 if !is_whole || out.len() < text.len().div_ceil(4) * 3 - padding {
                     return Err(DecodeError);
                 }

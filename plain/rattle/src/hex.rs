@@ -22,7 +22,7 @@ impl From<AllocError> for FromHexError {
 
 /// The bytes that a text spells.
 pub fn decode(alloc: Global, text: &str) -> Result<Vec<u8>, FromHexError> {
-    if text.len() % 2 != 0 {
+    if !text.len().is_multiple_of(2) {
         return Err(FromHexError::NoDigits(hex_crate::FromHexError::OddLength));
     }
     let mut bytes = Vec::filled(alloc, 0, text.len() / 2)?;

@@ -30,7 +30,10 @@ impl<T> FromIn<T> for Vec<T> {
 }
 
 impl<T, E> FromIn<Result<T, E>> for Result<Vec<T>, E> {
-    fn from_in<I: Iterator<Item = Result<T, E>>>(alloc: Global, items: I) -> Result<Self, AllocError> {
+    fn from_in<I: Iterator<Item = Result<T, E>>>(
+        alloc: Global,
+        items: I,
+    ) -> Result<Self, AllocError> {
         let mut all = Vec::new(alloc);
         for item in items {
             match item {

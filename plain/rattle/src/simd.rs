@@ -112,7 +112,8 @@ mod words {
     // The lowest bit of each byte of a word comes to its place in the highest byte of a product.
     #[inline(always)]
     pub fn bits(lanes: [u8; 16]) -> u64 {
-        let eight = |word: u64| (word & 0x0101_0101_0101_0101).wrapping_mul(0x0102_0408_1020_4080) >> 56;
+        let eight =
+            |word: u64| (word & 0x0101_0101_0101_0101).wrapping_mul(0x0102_0408_1020_4080) >> 56;
         let word = u128::from_le_bytes(lanes);
         eight(word as u64) | eight((word >> 64) as u64) << 8
     }
@@ -146,7 +147,8 @@ mod sse2 {
         of_right[..N].copy_from_slice(&right);
         // SAFETY: each processor of x86-64 has SSE2, and any sixteen bytes are a vector, as a vector is sixteen bytes.
         let lanes: [u8; 16] = unsafe {
-            let (left, right) = (transmute::<[u8; 16], __m128i>(of_left), transmute::<[u8; 16], __m128i>(of_right));
+            let (left, right) =
+                (transmute::<[u8; 16], __m128i>(of_left), transmute::<[u8; 16], __m128i>(of_right));
             transmute(instruction(left, right))
         };
         let mut front = [0; N];
@@ -174,7 +176,10 @@ mod tests {
             let lanes = Simd::<u8, N>::from_slice(&bytes);
             assert_eq!(lanes.simd_eq(Simd::splat(0)).to_bitmask(), 1 << index);
             assert_eq!(lanes.simd_lt(Simd::splat(1)).to_bitmask(), 1 << index);
-            assert_eq!(lanes.simd_ge(Simd::splat(1)).to_bitmask(), !(1 << index) & (u64::MAX >> (64 - N)));
+            assert_eq!(
+                lanes.simd_ge(Simd::splat(1)).to_bitmask(),
+                !(1 << index) & (u64::MAX >> (64 - N))
+            );
             let mut least = [9; N];
             lanes.simd_min(Simd::splat(5)).copy_to_slice(&mut least);
             assert_eq!(least, bytes);
