@@ -39,3 +39,29 @@ pub mod engine {
         }
     }
 }
+
+#[cfg(test)]
+mod tests {
+    use super::engine::general_purpose::{Engine, STANDARD, STANDARD_NO_PAD};
+    use super::DecodeError;
+
+    fn decoded(engine: &Engine, text: &str, room: usize) -> Result<usize, DecodeError> {
+        engine.decode_slice(text.as_bytes(), &mut [0; 8][..room])
+    }
+
+    #[test]
+    fn padding_is_as_the_engine_has_it() {
+        assert_eq!(decoded(&STANDARD, "YQ==", 1), Ok(1));
+        assert_eq!(decoded(&STANDARD, "YQ", 8), Err(DecodeError));
+        assert_eq!(decoded(&STANDARD_NO_PAD, "YQ", 8), Ok(1));
+        assert_eq!(decoded(&STANDARD_NO_PAD, "YQ==", 8), Err(DecodeError));
+    }
+
+    #[test]
+    fn room_that_is_short_is_refused() {
+        assert_eq!(decoded(&STANDARD, "YWJj", 3), Ok(3));
+        assert_eq!(decoded(&STANDARD, "YWJj", 2), Err(DecodeError));
+        assert_eq!(decoded(&STANDARD, "=", 8), Err(DecodeError));
+        assert_eq!(decoded(&STANDARD, "====", 8), Err(DecodeError));
+    }
+}
