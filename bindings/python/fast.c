@@ -511,7 +511,7 @@ static int check_version(PyObject *module)
 {
     const char *version = pgmsg_version();
     (void)module;
-    if (strcmp(version, PGMSG_VERSION) == 0)
+    if (strncmp(version, PGMSG_VERSION " ", sizeof PGMSG_VERSION) == 0)
         return PyModule_AddStringConstant(module, "VERSION", PGMSG_VERSION);
     PyErr_Format(PyExc_ImportError, "the library is of version %s, and its header of " PGMSG_VERSION, version);
     return -1;

@@ -528,8 +528,9 @@ typedef struct {
  * error" for a number that no call returns. */
 const char *pgmsg_strerror(int32_t number);
 
-/* The version of the library, for comparison with `PGMSG_VERSION` of the header. It lasts as long
- * as the program. */
+/* The version of the library, and after a space `proved build`, or `plain build` for one that rustc
+ * made of the same sources. The version is for comparison with `PGMSG_VERSION` of the header. It
+ * lasts as long as the program. */
 const char *pgmsg_version(void);
 
 /* A StartupMessage: opens a session by a minor version of the protocol's version 3, 0 or 2, with

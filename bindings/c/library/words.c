@@ -46,8 +46,9 @@ const char *pgmsg_strerror(int32_t number)
     return refusals[-number];
 }
 
-/* The version of the library, for comparison with `PGMSG_VERSION` of the header. It lasts as long as the program. */
+/* The version of the library, and after a space `proved build`, or `plain build` for one that rustc made of the same sources.
+ * The version is for comparison with `PGMSG_VERSION` of the header. It lasts as long as the program. */
 const char *pgmsg_version(void)
 {
-    return PGMSG_VERSION;
+    return PGMSG_VERSION " proved build";
 }

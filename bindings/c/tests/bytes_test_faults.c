@@ -208,7 +208,9 @@ static void words_of_numbers(struct tally *tally)
     CHECK(tally, strcmp(pgmsg_strerror(INT32_MIN), "unknown error") == 0);
     CHECK(tally, strcmp(pgmsg_strerror(0), "no error") == 0);
     CHECK(tally, strcmp(pgmsg_strerror(INT32_MAX), "no error") == 0);
-    CHECK(tally, strcmp(pgmsg_version(), PGMSG_VERSION) == 0);
+    const char *build = pgmsg_version() + sizeof PGMSG_VERSION;
+    CHECK(tally, strncmp(pgmsg_version(), PGMSG_VERSION " ", sizeof PGMSG_VERSION) == 0);
+    CHECK(tally, strcmp(build, "proved build") == 0 || strcmp(build, "plain build") == 0);
 }
 
 /* What is refused by what is passed beside bytes: a limit, room for a frame, or a tag. */

@@ -20,7 +20,7 @@ int main(void)
     if (other_put_query((const uint8_t *)"SELECT 1", 8, other, sizeof other) != len || memcmp(out, other, 14) != 0)
         return 1;
 #endif
-    if (strcmp(pgmsg_version(), PGMSG_VERSION) != 0)
+    if (strncmp(pgmsg_version(), PGMSG_VERSION " ", sizeof PGMSG_VERSION) != 0)
         return 1;
     puts(PGMSG_VERSION);
     return 0;

@@ -9,9 +9,9 @@ pub extern "C" fn pgmsg_strerror(number: i32) -> *const c_char {
     words_of(number).as_ptr()
 }
 
-/// The version of the library.
+/// The version of the library, and that it is the plain build.
 #[unsafe(no_mangle)]
 pub extern "C" fn pgmsg_version() -> *const c_char {
-    const VERSION: &str = concat!(env!("CARGO_PKG_VERSION"), "\0");
+    const VERSION: &str = concat!(env!("CARGO_PKG_VERSION"), " plain build\0");
     VERSION.as_ptr().cast()
 }
