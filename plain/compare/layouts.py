@@ -1,11 +1,9 @@
 #!/usr/bin/env python3
-"""Prints where the fields of each struct of pg_message.h are, as C: what lies between them is no part of its value.
+"""Prints where the fields of each struct of pg_message.h are, as C: what lies between them is no part of its value."""
 
-    layouts.py HEADER
-"""
-
+import argparse
+import pathlib
 import re
-import sys
 
 STRUCT = re.compile(r"^typedef struct \{\n(?P<fields>.*?)^\} (?P<name>\w+);$", re.MULTILINE | re.DOTALL)
 
@@ -25,8 +23,10 @@ def places(structs, name, at=""):
 
 
 def main():
-    with open(sys.argv[1]) as header:
-        structs = {found["name"]: found["fields"] for found in STRUCT.finditer(header.read())}
+    parser = argparse.ArgumentParser(description=__doc__)
+    parser.add_argument("header", type=pathlib.Path, metavar="HEADER")
+    header = parser.parse_args().header.read_text()
+    structs = {found["name"]: found["fields"] for found in STRUCT.finditer(header)}
     for name in SCALARS:
         print(f"static const struct layout layout_{name} = {{1, {{{{0, sizeof({name})}}}}}};")
     for name in structs:
