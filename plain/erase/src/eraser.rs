@@ -22,6 +22,8 @@ pub(crate) struct Eraser<'a> {
     pub macros: BTreeSet<&'a str>,
     /// Fields that are slices of structs that C fills, of those that the source names.
     pub c_fields: BTreeSet<&'a str>,
+    /// Whether the items are those of a trait.
+    pub is_in_trait: bool,
     /// Functions of others that the source declares.
     pub foreign: BTreeSet<&'a str>,
     /// Where the imports of those are to be added: the first `use` or else the first item, and whether it is a `use`.
@@ -50,6 +52,7 @@ impl<'a> Eraser<'a> {
             names,
             prelude: BTreeSet::new(),
             macros: BTreeSet::new(),
+            is_in_trait: false,
             foreign: BTreeSet::new(),
             front: None,
             imports: Vec::new(),

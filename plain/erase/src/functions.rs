@@ -126,16 +126,22 @@ impl<'a> Eraser<'a> {
     // `requires {..}` and `ensures NAME {..}`, which go.
     fn contract(&mut self, first: usize, signature: &Signature) -> Result<(), Refusal> {
         let begin = self.at;
+        let mut required = Vec::new();
         while self.takes("requires") || self.takes("ensures") {
+            let is_required = self.text_at(self.at - 1) == "requires";
             if self.is_word(0) {
                 self.at += 1;
             }
             let inner = self.group("{")?;
+            if is_required {
+                required.push(inner.clone());
+            }
             self.say(inner);
         }
         if self.at == begin {
             return Ok(());
         }
+        self.document(first, &required);
         let body = match self.text(0) {
             ";" => String::new(),
             "{" if signature.has_where => format!("\n{}", self.indent_of(first)),
@@ -146,6 +152,31 @@ impl<'a> Eraser<'a> {
         let end = if head.text == "," && body.is_empty() { head.at } else { head.end() };
         self.edits.replace(end..self.tokens[self.at].at, body);
         Ok(())
+    }
+
+    // What a public function requires of its callers, whom no one proves here, is a part of its documentation.
+    fn document(&mut self, first: usize, required: &[Range<usize>]) {
+        let is_public = self.is_in_trait
+            || self.tokens[first..self.at]
+                .windows(2)
+                .any(|pair| pair[0].text == "pub" && pair[1].text != "(");
+        if required.is_empty() || !is_public {
+            return;
+        }
+        let indent = self.indent_of(first);
+        let mut lines = if self.leads_of(first) < self.tokens[first].at {
+            format!("///\n{indent}")
+        } else {
+            String::new()
+        };
+        lines += &format!("/// # Requires\n{indent}///\n{indent}");
+        for clause in required {
+            let text =
+                &self.source[self.tokens[clause.start].at..self.tokens[clause.end - 1].end()];
+            let words: Vec<&str> = text.split_whitespace().collect();
+            lines += &format!("/// - `{}`\n{indent}", words.join(" "));
+        }
+        self.edits.insert(self.tokens[first].at, lines);
     }
 
     // `fmt<W: fmt::Write>(.., f: &mut fmt::Formatter<W>)` is what core has without the parameter.
@@ -222,6 +253,22 @@ mod tests {
     }
 
     #[test]
+    fn what_public_functions_require() {
+        assert_eq!(
+            erased("/// F.\n#[inline]\npub fn f(x: u8)\n    requires small { x ≤\n        1 }\n    requires { A }\n{\n    x;\n}\n"),
+            "/// F.\n///\n/// # Requires\n///\n/// - `x ≤ 1`\n/// - `A`\n#[inline]\npub fn f(x: u8) {\n    x;\n}\n"
+        );
+        assert_eq!(
+            erased("trait A {\n    fn f(&self)\n        requires { x };\n}\n"),
+            "trait A {\n    /// # Requires\n    ///\n    /// - `x`\n    fn f(&self);\n}\n"
+        );
+        assert_eq!(
+            erased("pub(crate) fn f()\n    requires { x }\n{\n}\n"),
+            "pub(crate) fn f() {\n}\n"
+        );
+    }
+
+    #[test]
     fn contracts_after_bounds() {
         assert_eq!(
             erased("fn f<F>(f: F)\nwhere\n    F: Fn() + Drop,\n    requires { x }\n{\n}\n"),
@@ -229,7 +276,7 @@ mod tests {
         );
         assert_eq!(
             erased("trait A {\n    fn f<F>(f: F)\n    where\n        F: Fn(),\n        requires { x };\n}\n"),
-            "trait A {\n    fn f<F>(f: F)\n    where\n        F: Fn();\n}\n"
+            "trait A {\n    /// # Requires\n    ///\n    /// - `x`\n    fn f<F>(f: F)\n    where\n        F: Fn();\n}\n"
         );
     }
 

@@ -242,7 +242,10 @@ impl<'a> Eraser<'a> {
         let head = self.at + 1;
         self.go_to(&["{"], self.tokens.len())?;
         self.heads(head, self.at)?;
-        self.block_of_items()
+        self.is_in_trait = true;
+        let walked = self.block_of_items();
+        self.is_in_trait = false;
+        walked
     }
 
     // An `impl`, and whether it stays: one of `Model` goes.

@@ -4,6 +4,7 @@
 mod block;
 mod growing;
 mod part;
+mod pointer;
 mod shared;
 
 pub use growing::BytesMut;

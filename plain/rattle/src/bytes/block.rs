@@ -1,5 +1,6 @@
 //! A block of memory that several share.
 
+use super::pointer::Pointer;
 use crate::alloc::AllocError;
 use core::ptr::{slice_from_raw_parts_mut, NonNull};
 use core::sync::atomic::{fence, AtomicUsize, Ordering};
@@ -14,13 +15,7 @@ struct Counted {
 }
 
 /// One share of a block. The memory is freed with the last.
-pub(super) struct Block(NonNull<Counted>);
-
-// SAFETY: the count is atomic, and what else is shared is not changed until the last owner frees it.
-unsafe impl Send for Block {}
-
-// SAFETY: as above.
-unsafe impl Sync for Block {}
+pub(super) struct Block(Pointer<NonNull<Counted>>);
 
 /// More owners than this are refused, as `Arc` does, long before the count overflows.
 const MOST_OWNERS: usize = isize::MAX as usize;
@@ -35,13 +30,13 @@ impl Block {
         let base = memory.as_mut_ptr().addr();
         place.push(Counted { owners: AtomicUsize::new(1), memory, base });
         let counted: &mut [Counted] = Box::leak(place.into_boxed_slice());
-        Ok(Block(NonNull::from(&mut counted[0])))
+        Ok(Block(Pointer(NonNull::from(&mut counted[0]))))
     }
 
     #[inline(always)]
     fn counted(&self) -> &Counted {
         // SAFETY: it was leaked in `new`, and is freed with the last share of it.
-        unsafe { self.0.as_ref() }
+        unsafe { self.0 .0.as_ref() }
     }
 
     /// One share more.
@@ -72,7 +67,7 @@ impl Drop for Block {
             return;
         }
         fence(Ordering::Acquire);
-        let counted = slice_from_raw_parts_mut(self.0.as_ptr(), 1);
+        let counted = slice_from_raw_parts_mut(self.0 .0.as_ptr(), 1);
         // SAFETY: `new` leaked a box of one, and this was its last share.
         drop(unsafe { Box::from_raw(counted) });
     }

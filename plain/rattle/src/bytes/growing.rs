@@ -2,6 +2,7 @@
 
 use super::block::Block;
 use super::part::Part;
+use super::pointer::Pointer;
 use super::Bytes;
 use crate::alloc::{AllocError, AllocFailed, Global};
 use core::fmt;
@@ -40,14 +41,14 @@ impl BytesMut {
     pub fn with_capacity(_: Global, room: usize) -> Result<Self, AllocError> {
         let mut own = Vec::new();
         own.try_reserve_exact(room).map_err(|_| AllocError)?;
-        let part = Part { at: own.as_mut_ptr(), len: 0 };
+        let part = Part { at: Pointer(own.as_mut_ptr()), len: 0 };
         Ok(BytesMut { part, room: own.capacity(), memory: Memory::Own(own) })
     }
 
     // Bytes of a block that no one else shares, with what is behind them.
     pub(super) fn of_block(part: Part, block: Block) -> Self {
         let (base, size) = block.place();
-        BytesMut { part, room: base + size - part.at.addr(), memory: Memory::Shared(block) }
+        BytesMut { part, room: base + size - part.at.0.addr(), memory: Memory::Shared(block) }
     }
 
     /// How many bytes there are.
@@ -108,8 +109,10 @@ impl BytesMut {
     #[inline(always)]
     pub fn extend_reserved(&mut self, bytes: &[u8]) {
         assert!(bytes.len() <= self.room - self.part.len);
+        let to = self.part.at.0.wrapping_add(self.part.len);
         // SAFETY: there is that much room, which is this one's alone, so `bytes` is elsewhere.
-        unsafe { self.part.extend(bytes) };
+        unsafe { to.copy_from_nonoverlapping(bytes.as_ptr(), bytes.len()) };
+        self.part.len += bytes.len();
     }
 
     // The memory where no one has another part of it: where it begins, and its size.
@@ -128,10 +131,12 @@ impl BytesMut {
         let needed = len.checked_add(more).ok_or(AllocError)?;
         let usual = match self.whole() {
             Some((base, size)) => {
-                let before = self.part.at.addr() - base;
+                let before = self.part.at.0.addr() - base;
                 if len <= before && needed <= size {
+                    let to = self.part.at.0.with_addr(base);
                     // SAFETY: the whole memory is this one's, and the bytes begin behind as many.
-                    unsafe { self.part.move_to(self.part.at.with_addr(base)) };
+                    unsafe { to.copy_from_nonoverlapping(self.part.at.0, len) };
+                    self.part.at.0 = to;
                     self.room = size;
                     return Ok(());
                 }

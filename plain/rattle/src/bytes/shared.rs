@@ -2,6 +2,7 @@
 
 use super::block::Block;
 use super::part::Part;
+use super::pointer::Pointer;
 use super::BytesMut;
 use crate::alloc::{AllocError, AllocFailed, Global};
 use crate::vec::Vec;
@@ -34,7 +35,7 @@ impl Bytes {
         if bytes.capacity() == 0 {
             return Ok(Bytes::new());
         }
-        let part = Part { at: bytes.as_mut_ptr(), len: bytes.len() };
+        let part = Part { at: Pointer(bytes.as_mut_ptr()), len: bytes.len() };
         match Block::new(bytes) {
             Ok(block) => Ok(Bytes { part, block: Some(block) }),
             Err(bytes) => Err(AllocFailed { value: bytes.into() }),
@@ -71,7 +72,7 @@ impl Bytes {
             return Ok(Bytes::new());
         }
         let block = self.block.as_ref().map(Block::share).transpose()?;
-        Ok(Bytes { part: Part { at: self.part.at.wrapping_add(from), len }, block })
+        Ok(Bytes { part: Part { at: Pointer(self.part.at.0.wrapping_add(from)), len }, block })
     }
 
     /// Some of the bytes, shared.
