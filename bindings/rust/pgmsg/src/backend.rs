@@ -11,6 +11,7 @@ mod authentication;
 mod columns;
 mod copy;
 mod fields;
+mod severity;
 mod status;
 
 pub use crate::row::{places_in, Cell, Cells, Row, RowIndex};
@@ -18,22 +19,30 @@ pub use answers::{rows_affected, FunctionCallResponse, Other};
 pub use authentication::Authentication;
 pub use columns::Column;
 pub use copy::CopyResponse;
-pub use fields::{Field, FieldKind, Fields, Severity};
+pub use fields::{Field, FieldKind, Fields};
+pub use severity::Severity;
 pub use status::{
     BackendKeyData, NegotiateProtocolVersion, NotificationResponse, ParameterStatus,
     TransactionStatus,
 };
 
-use crate::buffer::Buffer;
+use crate::body::checked;
+use crate::buffer::{put_answer, Buffer};
 use crate::byte_str::ByteStr;
-use crate::calls::{ask, put};
 use crate::error::{Fault, Refusal};
 use crate::frame::Frame;
 use crate::frontend::read_data;
 use crate::list::List;
-use crate::message::messages;
+use crate::message::{messages, put_nothing, read_nothing};
 use crate::value::Value;
+use crate::Oid;
 use answers::read_other;
+use pgmsg_core::pg_base::{BackendMessageFormat, ProtocolFault};
+use pgmsg_core::pg_receive::message::body_end;
+use pgmsg_core::pg_server::backend::{
+    CommandCompleteText, CopyDataText, CopyDirection, DataRowText, NoticeKind,
+    ParameterDescriptionText,
+};
 
 /// The offset after the last part of a body, by the tag of its message: `body.len()` where nothing
 /// follows the parts that the documentation lists.
@@ -50,7 +59,9 @@ use answers::read_other;
 /// ```
 #[inline]
 pub fn end(tag: u8, body: &[u8]) -> Result<usize, Fault> {
-    ask!(pgmsg_read_end(tag, [body]))
+    let kind = BackendMessageFormat::try_from_u8(tag);
+    let kind = kind.map_err(|_| ProtocolFault::UnknownMessageType(tag))?;
+    Ok(body_end(kind, checked(body)?)?)
 }
 
 messages! {
@@ -95,23 +106,23 @@ messages! {
         /// A Close succeeded.
         CloseComplete = b'3';
         /// A command succeeded: its tag, such as `INSERT 0 1`, of which [`rows_affected`] has the number.
-        CommandComplete(command: ByteStr<'a>) = b'C', answers::read_command, pgmsg_put_command_complete([command]);
+        CommandComplete(command: ByteStr<'a>) = b'C', answers::read_command, put_answer(&CommandCompleteText { command });
         /// Data of a COPY.
-        CopyData(data: ByteStr<'a>) = b'd', read_data, pgmsg_put_copy_data([data]);
+        CopyData(data: ByteStr<'a>) = b'd', read_data, put_answer(&CopyDataText(data));
         /// The end of the data of a COPY.
         CopyDone = b'c';
         /// The server waits for the data of a COPY.
-        CopyInResponse(copy: CopyResponse<'a>) = b'G', CopyResponse::read, pgmsg_put_copy_response(b'G', copy.format, [copy.codes()]);
+        CopyInResponse(copy: CopyResponse<'a>) = b'G', CopyResponse::read, copy::write(CopyDirection::In, copy);
         /// The data of a COPY follows.
-        CopyOutResponse(copy: CopyResponse<'a>) = b'H', CopyResponse::read, pgmsg_put_copy_response(b'H', copy.format, [copy.codes()]);
+        CopyOutResponse(copy: CopyResponse<'a>) = b'H', CopyResponse::read, copy::write(CopyDirection::Out, copy);
         /// A COPY both ways begins, as in replication.
-        CopyBothResponse(copy: CopyResponse<'a>) = b'W', CopyResponse::read, pgmsg_put_copy_response(b'W', copy.format, [copy.codes()]);
+        CopyBothResponse(copy: CopyResponse<'a>) = b'W', CopyResponse::read, copy::write(CopyDirection::Both, copy);
         /// A row of a result.
-        DataRow(values: List<'a, Value<'a>>) = b'D', crate::row::read, pgmsg_put_row([Value::list(values)]);
+        DataRow(values: List<'a, Value<'a>>) = b'D', crate::row::read, put_answer(&DataRowText { values });
         /// A query without a statement succeeded.
         EmptyQueryResponse = b'I';
         /// An error.
-        ErrorResponse(fields: Fields<'a>) = b'E', Fields::read, fields::write(b'E', fields);
+        ErrorResponse(fields: Fields<'a>) = b'E', Fields::read, fields::write(NoticeKind::Error, fields);
         /// The result of a function that was called.
         FunctionCallResponse(response: FunctionCallResponse<'a>) = b'V', FunctionCallResponse::read, FunctionCallResponse::write;
         /// The newest version of the protocol that the server speaks.
@@ -119,11 +130,11 @@ messages! {
         /// A statement or a portal has no rows to describe.
         NoData = b'n';
         /// A notice.
-        NoticeResponse(fields: Fields<'a>) = b'N', Fields::read, fields::write(b'N', fields);
+        NoticeResponse(fields: Fields<'a>) = b'N', Fields::read, fields::write(NoticeKind::Notice, fields);
         /// A notification from another session.
         NotificationResponse(notification: NotificationResponse<'a>) = b'A', NotificationResponse::read, NotificationResponse::write;
         /// The object ids of the types of a statement's parameters.
-        ParameterDescription(types: List<'a, u32>) = b't', columns::read_types, pgmsg_put_parameter_types([types]);
+        ParameterDescription(types: List<'a, Oid>) = b't', columns::read_types, put_answer(&ParameterDescriptionText { types });
         /// A setting of the server and its value.
         ParameterStatus(status: ParameterStatus<'a>) = b'S', ParameterStatus::read, ParameterStatus::write;
         /// A Parse succeeded.
@@ -131,7 +142,7 @@ messages! {
         /// An Execute reached its limit of rows.
         PortalSuspended = b's';
         /// The server is ready for the next query.
-        ReadyForQuery(status: TransactionStatus) = b'Z', TransactionStatus::read, pgmsg_put_ready(status.letter());
+        ReadyForQuery(status: TransactionStatus) = b'Z', TransactionStatus::read, TransactionStatus::write;
         /// The columns of a result.
         RowDescription(columns: List<'a, Column<'a>>) = b'T', columns::read, columns::write;
     }

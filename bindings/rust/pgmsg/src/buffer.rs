@@ -1,186 +1,188 @@
 //! What messages are appended to.
 
 use crate::error::Refusal;
-use crate::version;
 use alloc::vec::Vec;
-use core::mem::MaybeUninit;
+use pgmsg_core::pg_base::io::part::Part;
+use pgmsg_core::pg_base::io::{checked_len, Sink, Tagged, Text, HEADER};
+use pgmsg_core::pg_base::ProtocolFault;
+use pgmsg_core::pg_send::message::{BodyOf, FrontendMessage};
+use pgmsg_core::pg_server::backend::BackendText;
 
 /// The least room that is added to a vector at once, so that small messages need few allocations.
 const LEAST_GROWTH: usize = 1 << 10;
 
-/// What messages are appended to: a `Vec<u8>`, and with the feature `bytes` also a `BytesMut`.
+/// What messages are appended to: a `Vec<u8>`, with the feature `bytes` a `BytesMut`, or a type of yours.
 ///
-/// No other type can be one.
-pub trait Buffer: Room {}
-
-impl<B: Room> Buffer for B {}
-
-/// Bytes with room after them.
-pub trait Room {
+/// A message asks for the room of all its bytes once, and then appends them piece by piece.
+///
+/// ```
+/// use pgmsg::{frontend::Message, Buffer, Refusal};
+///
+/// /// A buffer that never has more than 16 bytes.
+/// #[derive(Default)]
+/// struct Small(Vec<u8>);
+///
+/// impl Buffer for Small {
+///     fn bytes(&self) -> &[u8] {
+///         &self.0
+///     }
+///
+///     fn truncate(&mut self, length: usize) {
+///         self.0.truncate(length);
+///     }
+///
+///     fn try_reserve(&mut self, additional: usize) -> Result<(), Refusal> {
+///         match self.0.len() + additional {
+///             ..=16 => Ok(()),
+///             _ => Err(Refusal::OutOfMemory),
+///         }
+///     }
+///
+///     fn extend_from_slice(&mut self, bytes: &[u8]) {
+///         self.0.extend_from_slice(bytes);
+///     }
+/// }
+///
+/// let mut out = Small::default();
+/// assert_eq!(Message::Query("SELECT 1".into()).write(&mut out), Ok(()));
+/// assert_eq!(Message::Sync.write(&mut out), Err(Refusal::OutOfMemory));
+/// assert_eq!(out.bytes(), b"Q\0\0\0\x0DSELECT 1\0");
+/// ```
+pub trait Buffer {
     /// The bytes.
     fn bytes(&self) -> &[u8];
 
-    /// Removes all bytes after the first `length`.
+    /// Removes all bytes after the first `length`, or none where there are no more.
     fn truncate(&mut self, length: usize);
 
-    /// The room after the bytes.
-    fn spare(&mut self) -> Spare<'_>;
+    /// Makes room for so many bytes more, or refuses, with [`OutOfMemory`](Refusal::OutOfMemory) where there is no
+    /// memory, and leaves the bytes as they were.
+    fn try_reserve(&mut self, additional: usize) -> Result<(), Refusal>;
 
-    /// Adds the first `length` bytes of the room to the bytes.
-    ///
-    /// # Safety
-    ///
-    /// There is as much room, and so much of it is initialised.
-    unsafe fn extend(&mut self, length: usize);
-
-    /// Makes room for so many bytes more.
-    fn reserve(&mut self, length: usize) -> Result<(), Refusal>;
+    /// Appends bytes, for which room was made.
+    fn extend_from_slice(&mut self, bytes: &[u8]);
 }
 
-/// Room in which a call of the library writes.
-pub struct Spare<'a>(&'a mut [MaybeUninit<u8>]);
-
-impl Spare<'_> {
+impl Buffer for Vec<u8> {
     #[inline]
-    pub fn as_mut_ptr(&mut self) -> *mut u8 {
-        self.0.as_mut_ptr().cast()
+    fn bytes(&self) -> &[u8] {
+        self
     }
 
     #[inline]
-    pub fn len(&self) -> usize {
-        self.0.len()
+    fn truncate(&mut self, length: usize) {
+        Vec::truncate(self, length);
     }
-}
-
-/// What a vector and a `BytesMut` do by methods of the same names.
-macro_rules! as_vector {
-    () => {
-        #[inline]
-        fn bytes(&self) -> &[u8] {
-            self
-        }
-
-        #[inline]
-        fn truncate(&mut self, length: usize) {
-            self.truncate(length);
-        }
-
-        #[inline]
-        unsafe fn extend(&mut self, length: usize) {
-            // SAFETY: so much of the spare capacity is initialised.
-            unsafe { self.set_len(self.len() + length) }
-        }
-    };
-}
-
-impl Room for Vec<u8> {
-    as_vector!();
 
     #[inline]
-    fn spare(&mut self) -> Spare<'_> {
-        Spare(self.spare_capacity_mut())
+    fn try_reserve(&mut self, additional: usize) -> Result<(), Refusal> {
+        if self.capacity() - self.len() >= additional {
+            return Ok(());
+        }
+        Vec::try_reserve(self, additional.max(LEAST_GROWTH)).map_err(|_| Refusal::OutOfMemory)
     }
 
-    fn reserve(&mut self, length: usize) -> Result<(), Refusal> {
-        self.try_reserve(length.max(LEAST_GROWTH)).map_err(|_| Refusal::OutOfMemory)
+    #[inline(always)]
+    fn extend_from_slice(&mut self, bytes: &[u8]) {
+        Vec::extend_from_slice(self, bytes);
     }
 }
 
 /// Where there is no memory, the program ends, as it does in each call of that crate.
 #[cfg(feature = "bytes")]
-impl Room for bytes::BytesMut {
-    as_vector!();
-
+impl Buffer for bytes::BytesMut {
     #[inline]
-    fn spare(&mut self) -> Spare<'_> {
-        let room = bytes::BufMut::chunk_mut(self);
-        let (start, length) = (room.as_mut_ptr(), room.len());
-        // SAFETY: the two are of a slice that is borrowed for as long, whose bytes need not be
-        // initialised.
-        Spare(unsafe { core::slice::from_raw_parts_mut(start.cast(), length) })
+    fn bytes(&self) -> &[u8] {
+        self
     }
 
-    fn reserve(&mut self, length: usize) -> Result<(), Refusal> {
-        self.reserve(length);
+    #[inline]
+    fn truncate(&mut self, length: usize) {
+        bytes::BytesMut::truncate(self, length);
+    }
+
+    #[inline]
+    fn try_reserve(&mut self, additional: usize) -> Result<(), Refusal> {
+        self.reserve(additional);
         Ok(())
+    }
+
+    #[inline(always)]
+    fn extend_from_slice(&mut self, bytes: &[u8]) {
+        bytes::BytesMut::extend_from_slice(self, bytes);
     }
 }
 
-/// Appends what a call writes. It calls again with more room where the first room is too small.
-///
-/// # Safety
-///
-/// The call gives the length of what it writes, and has written as much at the front of the room where
-/// so much fits.
-#[inline]
-pub(crate) unsafe fn append<B: Room>(
-    buffer: &mut B,
-    call: impl Fn(Spare<'_>) -> isize,
-) -> Result<(), Refusal> {
-    version::check();
-    let room = buffer.spare();
-    let most = room.len();
-    let length = call(room);
-    // A number below 0 is above each length as a `usize`.
-    if length as usize > most {
-        // SAFETY: what is asked of the call is the same.
-        return unsafe { append_in_more(buffer, length, call) };
+/// A buffer as the core writes to it, a piece at a time.
+struct Out<'b, B>(&'b mut B);
+
+impl<B: Buffer> Sink for Out<'_, B> {
+    #[inline(always)]
+    fn put_u8(&mut self, byte: u8) {
+        self.put_slice(&[byte]);
     }
-    // SAFETY: there is as much room, and the call has written so much at its front.
-    unsafe { buffer.extend(length as usize) };
+
+    #[inline(always)]
+    fn put_slice(&mut self, bytes: &[u8]) {
+        self.0.extend_from_slice(bytes);
+    }
+
+    #[inline(always)]
+    fn put_number(&mut self, bytes: &[u8]) {
+        self.put_slice(bytes);
+    }
+
+    #[inline(always)]
+    fn put_u16(&mut self, number: u16) {
+        self.put_slice(&number.to_be_bytes());
+    }
+
+    #[inline(always)]
+    fn put_u32(&mut self, number: u32) {
+        self.put_slice(&number.to_be_bytes());
+    }
+}
+
+/// Appends a text of so many bytes.
+#[inline]
+pub(crate) fn put_text<T: Text, B: Buffer>(
+    text: &T,
+    length: usize,
+    out: &mut B,
+) -> Result<(), Refusal> {
+    out.try_reserve(length)?;
+    text.put(&mut Out(out));
     Ok(())
 }
 
-/// Appends what a call writes that gave a length above that of the room, or a refusal.
-///
-/// # Safety
-///
-/// As of [`append`].
-#[cold]
-unsafe fn append_in_more<B: Room>(
-    buffer: &mut B,
-    length: isize,
-    call: impl Fn(Spare<'_>) -> isize,
+/// Appends a message of these parts, or refuses it for the first limit that they break, and then for what its reader
+/// would not get back of it.
+#[inline]
+pub(crate) fn put_sound<P: Part, B: Buffer>(
+    tag: u8,
+    parts: P,
+    sound: Result<(), ProtocolFault>,
+    out: &mut B,
 ) -> Result<(), Refusal> {
-    let length = usize::try_from(length).map_err(|_| Refusal::from_number(length))?;
-    buffer.reserve(length)?;
-    let room = buffer.spare();
-    let most = room.len();
-    let number = call(room);
-    match usize::try_from(number) {
-        Ok(length) if length <= most => {
-            // SAFETY: there is as much room, and the call has written so much at its front.
-            unsafe { buffer.extend(length) };
-            Ok(())
-        }
-        _ => Err(Refusal::from_number(number)),
-    }
+    let len = checked_len(&parts)?;
+    sound?;
+    put_text(&Tagged { tag, parts: &parts, len }, HEADER + len, out)
 }
 
-#[cfg(test)]
-// Where `append` could be called without `unsafe`, it would trust any call: these tests wouldn't compile.
-#[deny(unused_unsafe)]
-mod tests {
-    use super::*;
+/// Appends a message of the core's, as a client writes it.
+#[inline]
+pub(crate) fn put_message<M: FrontendMessage, B: Buffer>(
+    message: &M,
+    out: &mut B,
+) -> Result<(), Refusal> {
+    put_sound(message.tag(), BodyOf(message), message.check_round_trip(), out)
+}
 
-    #[test]
-    fn a_length_that_changes_between_two_calls_is_refused() {
-        let mut bytes = Vec::new();
-        // SAFETY: no length that the call gives fits into its room.
-        let refused = unsafe { append(&mut bytes, |out| out.len() as isize + 1) };
-        match refused {
-            Err(Refusal::Unexpected(length)) => assert!(length > 1),
-            other => panic!("{other:?}"),
-        }
-        assert!(bytes.is_empty());
-    }
-
-    #[test]
-    fn a_length_without_memory_is_refused() {
-        let mut bytes = Vec::new();
-        // SAFETY: no room has so many bytes.
-        let refused = unsafe { append(&mut bytes, |_| isize::MAX) };
-        assert_eq!(refused, Err(Refusal::OutOfMemory));
-        assert!(bytes.is_empty());
-    }
+/// Appends a message of the core's, as a server writes it.
+#[inline]
+pub(crate) fn put_answer<M: BackendText, B: Buffer>(
+    message: &M,
+    out: &mut B,
+) -> Result<(), Refusal> {
+    put_sound(message.tag(), message.parts(), Ok(()), out)
 }

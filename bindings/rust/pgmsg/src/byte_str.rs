@@ -5,6 +5,7 @@ use alloc::string::String;
 use core::fmt;
 use core::ops::Deref;
 use core::str::{self, Utf8Error};
+use pgmsg_core::pg_server::backend::{AsItem, Mechanism};
 
 /// Bytes that are a text mostly, in the encoding of the client or the server: they need not be UTF-8.
 ///
@@ -68,6 +69,27 @@ impl Deref for ByteStr<'_> {
     #[inline]
     fn deref(&self) -> &[u8] {
         self.0
+    }
+}
+
+impl<'a> From<ByteStr<'a>> for &'a [u8] {
+    #[inline]
+    fn from(text: ByteStr<'a>) -> &'a [u8] {
+        text.0
+    }
+}
+
+/// As a name in a list.
+impl<'a> AsItem<&'a [u8]> for ByteStr<'a> {
+    fn as_item(&self) -> &'a [u8] {
+        self.0
+    }
+}
+
+/// As a mechanism of authentication.
+impl<'a> AsItem<Mechanism<'a>> for ByteStr<'a> {
+    fn as_item(&self) -> Mechanism<'a> {
+        Mechanism(self.0)
     }
 }
 

@@ -1,12 +1,13 @@
 //! The messages of a stream, one after the other.
 
-use crate::answer::answer;
-use crate::calls::number;
 use crate::error::{Fault, Refusal};
 use crate::frame::{Frame, Next};
-use crate::frontend::MAX_FIRST_LENGTH;
-use crate::relay::check_frames;
-use crate::sys;
+use pgmsg_core::pg_base::io::HEADER;
+use pgmsg_core::pg_frames::frontend::{next_frontend_frame, Expects, MAX_FIRST_LENGTH};
+use pgmsg_core::pg_frames::{first_length, next_raw_frame, FrameHead};
+
+/// The bytes of the length of a message without a tag.
+const LENGTH: usize = 4;
 
 /// Cuts one side's stream into its messages, without copying them: for each its tag, its bytes and its
 /// offset in the stream.
@@ -39,10 +40,8 @@ pub struct Decoder {
 enum Side {
     /// A server's, whose messages all have a tag.
     Server,
-    /// A client's, where a message without a tag comes next.
-    ClientFirst,
-    /// A client's, where a message with a tag comes next.
-    Client,
+    /// A client's, where such a message comes next.
+    Client(Expects),
 }
 
 impl Decoder {
@@ -55,12 +54,12 @@ impl Decoder {
     /// Cuts a client's stream, which begins with a message without a tag; one that asks for encryption is
     /// followed by another one.
     pub const fn of_client() -> Decoder {
-        Decoder::of(Side::ClientFirst)
+        Decoder::of(Side::Client(Expects::First))
     }
 
     /// Cuts a client's stream from its messages with a tag on.
     pub const fn of_open_client() -> Decoder {
-        Decoder::of(Side::Client)
+        Decoder::of(Side::Client(Expects::Tagged))
     }
 
     const fn of(side: Side) -> Decoder {
@@ -92,7 +91,7 @@ impl Decoder {
     /// Whether a message without a tag comes next.
     #[inline]
     pub const fn expects_first(&self) -> bool {
-        matches!(self.side, Side::ClientFirst)
+        matches!(self.side, Side::Client(Expects::First))
     }
 
     /// The message at the front of the bytes that follow the last one. Where it is whole, the decoder goes
@@ -102,32 +101,31 @@ impl Decoder {
     /// message without a tag, where its length is below 8. The position in the stream is lost then.
     #[inline]
     pub fn next<'a>(&mut self, bytes: &'a [u8]) -> Result<Next<'a>, Fault> {
-        let mut head = sys::pgmsg_frame::default();
-        let is_whole = answer(|fault| match self.side {
-            Side::Server => number!(pgmsg_next_frame([bytes], &mut head, fault)),
-            Side::Client => number!(pgmsg_next_frontend_frame([bytes], &mut head, fault)),
-            Side::ClientFirst => {
-                number!(pgmsg_next_first_frame([bytes], MAX_FIRST_LENGTH, &mut head, fault))
-            }
-        })?;
-        if head.length > self.limit {
+        let after = match self.side {
+            Side::Server => next_raw_frame(bytes)?.map(|frame| (frame.rest, Side::Server)),
+            Side::Client(expects) => next_frontend_frame(expects, MAX_FIRST_LENGTH, bytes)?
+                .map(|frame| (frame.rest, Side::Client(frame.next))),
+        };
+        let length = after.map_or_else(|| self.needed(bytes), |(rest, _)| bytes.len() - rest.len());
+        if length > self.limit {
             return Err(Refusal::FrameTooLong.into());
         }
         let tag = bytes.first().copied().filter(|_| !self.expects_first());
-        if is_whole == 0 {
-            let needed = head.length;
-            return Ok(Next::Incomplete { tag, needed });
-        }
-        let frame = Frame {
-            tag,
-            bytes: bytes.get(..head.length).ok_or_else(|| Fault::unexpected(head.length))?,
-            offset: self.offset,
+        let Some((_, side)) = after else {
+            return Ok(Next::Incomplete { tag, needed: length });
         };
-        if tag.is_none() && !check_frames(frame.bytes, true)? {
-            self.side = Side::Client;
-        }
-        self.advance(head.length);
+        let frame = Frame { tag, bytes: &bytes[..length], offset: self.offset };
+        self.side = side;
+        self.advance(length);
         Ok(Next::Frame(frame))
+    }
+
+    /// How many bytes the message at the front needs at least, whose length is not refused.
+    fn needed(&self, bytes: &[u8]) -> usize {
+        match self.expects_first() {
+            true => first_length(bytes).map_or(LENGTH, |length| length as usize),
+            false => FrameHead::of(bytes).map_or(HEADER, |head| 1 + head.announced as usize),
+        }
     }
 
     /// Goes on after a message with a tag of so many bytes, which isn't looked at whole: of one that is

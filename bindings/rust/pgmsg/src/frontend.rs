@@ -19,7 +19,6 @@
 mod bind;
 mod copy;
 mod first;
-mod lists;
 mod password;
 mod prepared;
 
@@ -31,19 +30,28 @@ pub use prepared::{Execute, Parse, Target};
 
 pub(crate) use copy::read as read_data;
 
-use crate::answer::part;
-use crate::buffer::Buffer;
+use crate::body::checked;
+use crate::buffer::{put_message, put_sound, Buffer};
 use crate::byte_str::ByteStr;
-use crate::calls::{ask, put, read};
 use crate::error::{Fault, Refusal};
 use crate::frame::Frame;
-use crate::message::messages;
-use first::read_first;
+use crate::message::{messages, put_nothing, read_nothing};
+use first::{put_gss_enc_request, put_ssl_request, read_first};
+use pgmsg_core::pg_base::io::Ended;
+use pgmsg_core::pg_send::message::round_trip::check_ended;
+use pgmsg_core::pg_send::message::{CopyData, RawClose, RawDescribe};
+use pgmsg_core::pg_server::frontend;
 
 /// Reads a text without its NUL.
 #[inline]
 fn read_text(body: &[u8]) -> Result<ByteStr<'_>, Fault> {
-    part(body, read!(pgmsg_read_text([body]))?).map(ByteStr)
+    Ok(ByteStr(frontend::read_text(checked(body)?)?))
+}
+
+/// Appends a message that is a text and its NUL.
+#[inline]
+fn put_text<B: Buffer>(tag: u8, text: ByteStr<'_>, out: &mut B) -> Result<(), Refusal> {
+    put_sound(tag, Ended(text.0), check_ended(text.0), out)
 }
 
 messages! {
@@ -79,23 +87,23 @@ messages! {
         /// What another session runs is to be cancelled. The server answers nothing, and closes the connection.
         CancelRequest(cancel: CancelRequest<'a>) = None, CancelRequest::write;
         /// An encrypted connection is asked for. The server answers with one byte, `S` or `N`.
-        SslRequest = None, pgmsg_put_ssl_request();
+        SslRequest = None, put_ssl_request;
         /// A connection that GSSAPI encrypts is asked for. The server answers with one byte, `G` or `N`.
-        GssEncRequest = None, pgmsg_put_gss_enc_request();
+        GssEncRequest = None, put_gss_enc_request;
     }
     read by tag {
         /// A portal is made of a prepared statement and the values of its parameters.
         Bind(bind: Bind<'a>) = b'B', Bind::read, Bind::write;
         /// A statement or a portal is closed.
-        Close(target: Target<'a>) = b'C', Target::read, pgmsg_put_close(target.kind(), [target.name()]);
+        Close(target: Target<'a>) = b'C', Target::read, put_message(&RawClose::from(*target));
         /// A part of the data of a COPY.
-        CopyData(data: ByteStr<'a>) = b'd', read_data, pgmsg_put_copy_data([data]);
+        CopyData(data: ByteStr<'a>) = b'd', read_data, put_message(&CopyData(data.0));
         /// The data of a COPY has ended.
         CopyDone = b'c';
         /// A COPY is given up, for this reason.
-        CopyFail(reason: ByteStr<'a>) = b'f', read_text, pgmsg_put_copy_fail([reason]);
+        CopyFail(reason: ByteStr<'a>) = b'f', read_text, put_text(b'f', *reason);
         /// A statement or a portal is described.
-        Describe(target: Target<'a>) = b'D', Target::read, pgmsg_put_describe(target.kind(), [target.name()]);
+        Describe(target: Target<'a>) = b'D', Target::read, put_message(&RawDescribe::from(*target));
         /// A portal is run.
         Execute(execute: Execute<'a>) = b'E', Execute::read, Execute::write;
         /// The server is asked to send what it has.
@@ -108,7 +116,7 @@ messages! {
         /// GSSResponse, as the request says.
         Password(password: Password<'a>) = b'p', Password::read, Password::write;
         /// The statements of a text are run.
-        Query(query: ByteStr<'a>) = b'Q', read_text, pgmsg_put_query([query]);
+        Query(query: ByteStr<'a>) = b'Q', read_text, put_text(b'Q', *query);
         /// A run of messages ends, which the server answers with ReadyForQuery.
         Sync = b'S';
         /// The session ends.

@@ -1,7 +1,7 @@
 //! Messages of the PostgreSQL wire protocol, version 3, as a client and a server send and receive them.
 //!
-//! This crate is a safe interface to `libpg_message`, the message layer of the project
-//! Tarnwhisk, whose code is proved. It has no sockets and no state of a connection: a [`Decoder`] cuts a
+//! This crate stands on the message layer of the project Tarnwhisk, `pgmsg_core`, whose sources are proved; here they
+//! are plain Rust without `unsafe`. It has no sockets and no state of a connection: a [`Decoder`] cuts a
 //! stream into its messages, without copying them; [`backend::Message`] and [`frontend::Message`] are any
 //! message of a server and of a client, borrowed of its bytes, to be read and to be written; a
 //! [`relay::Relay`] passes the bytes of either side on; [`replication::Message`] is what a CopyData says of the log
@@ -27,33 +27,30 @@
 //!
 //! A call that writes fails with a [`Refusal`] and leaves the messages that were written before.
 //! A call that reads fails with a [`Fault`]: a [`Refusal`], the offset of the fault, and words.
-//! Both can be made a `std::io::Error`. No input makes a call panic; a library of another version than the
-//! crate's declarations does, whichever call is the first one.
+//! Both can be made a `std::io::Error`. No input makes a call panic.
 //!
 //! # Features
 //!
-//! - `std`, a default, makes errors those of `std`; without it the crate needs `alloc` alone.
+//! - `std`, a default, makes errors `std::io::Error`s too; without it the crate needs `alloc` alone.
 //! - `bytes` makes a `BytesMut` something that messages are appended to.
 //! - `codec` has codecs of `tokio_util` for both sides.
+//! - `serde` has statuses, severities, refusals, faults and owned messages serialized and deserialized.
 //! - `sha2` has a hash for [`scram`], by the crates sha2 and hmac.
 //!
-//! # Building
-//!
-//! The crate `pgmsg-sys`, which declares the calls of the library, finds it: in the folder that the
-//! environment variable `PGMSG_LIB_DIR` names, else by `pkg-config`. It needs Rust 1.63.
+//! It needs Rust 1.87.
 
-#![cfg_attr(not(feature = "std"), no_std)]
+#![no_std]
+#![forbid(unsafe_code)]
 #![warn(missing_docs)]
-#![deny(unsafe_op_in_unsafe_fn)]
-#![warn(clippy::multiple_unsafe_ops_per_block, clippy::undocumented_unsafe_blocks)]
 
 extern crate alloc;
+#[cfg(any(feature = "std", test))]
+extern crate std;
 
-mod answer;
 pub mod backend;
+mod body;
 mod buffer;
 mod byte_str;
-mod calls;
 #[cfg(feature = "codec")]
 pub mod codec;
 mod decoder;
@@ -66,10 +63,8 @@ pub mod relay;
 pub mod replication;
 mod row;
 pub mod scram;
-mod table;
 mod value;
 mod values;
-mod version;
 
 pub use buffer::Buffer;
 pub use byte_str::{ByteStr, Secret};
@@ -80,4 +75,5 @@ pub use list::List;
 pub use value::{Format, Value};
 pub use values::Values;
 
-use pgmsg_sys as sys;
+/// The number of an object in the catalog of a server, such as a type, a table or a function.
+pub type Oid = u32;

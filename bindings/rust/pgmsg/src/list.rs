@@ -1,5 +1,6 @@
 //! The lists of messages.
 
+use crate::error::Refusal;
 use alloc::vec::Vec;
 use core::fmt;
 use core::ops::Deref;
@@ -23,6 +24,16 @@ pub struct List<'a, T>(Items<'a, T>);
 enum Items<'a, T> {
     Borrowed(&'a [T]),
     Owned(Vec<T>),
+}
+
+impl<T> List<'_, T> {
+    /// So many items.
+    pub(crate) fn of(count: usize, items: impl Iterator<Item = T>) -> Result<Self, Refusal> {
+        let mut owned = Vec::new();
+        owned.try_reserve_exact(count).map_err(|_| Refusal::OutOfMemory)?;
+        owned.extend(items);
+        Ok(List(Items::Owned(owned)))
+    }
 }
 
 impl<T: Clone> List<'_, T> {

@@ -1,25 +1,44 @@
 //! The enum of a side's messages, by a table.
 
+use crate::body::checked;
+use crate::buffer::{put_sound, Buffer};
+use crate::error::{Fault, Refusal};
+use pgmsg_core::pg_base::io::part::Nothing;
+use pgmsg_core::pg_server::frontend::read_empty;
+
+/// Reads the body of a message that has none.
+#[inline]
+pub(crate) fn read_nothing(body: &[u8]) -> Result<(), Fault> {
+    Ok(read_empty(checked(body)?)?)
+}
+
+/// Appends a message without a body.
+#[inline]
+pub(crate) fn put_nothing<B: Buffer>(tag: u8, out: &mut B) -> Result<(), Refusal> {
+    put_sound(tag, Nothing, Ok(()), out)
+}
+
 /// Makes the enum of a side's messages by a table: for each its parts, its tag, the function that reads its body, and
-/// the one that writes it or the call of the library, unless it has no body. The first rows are of messages that are not
-/// read by a tag of their own.
+/// the one that writes its parts, or these arguments, unless it has no body. The first rows are of messages that are
+/// not read by a tag of their own.
 macro_rules! messages {
     (@read $body:ident $name:ident) => {{
-        ask!(pgmsg_read_no_body([$body]))?;
+        read_nothing($body)?;
         Message::$name
     }};
     (@read $body:ident $name:ident $read:expr) => { Message::$name($read($body)?) };
-    (@write $out:ident ($($parts:ident)?) $call:ident($($arguments:tt)*)) => { put!($out, $call($($arguments)*)) };
-    (@write $out:ident ($parts:ident) $($write:ident)::+) => { $($write)::+($parts, $out) };
-    (@write $out:ident ($parts:ident) $($write:ident)::+($($arguments:tt)*)) => { $($write)::+($($arguments)*, $out) };
-    (@write $out:ident $tag:literal) => { put!($out, pgmsg_put_no_body($tag)) };
+    (@write $out:ident ($($parts:ident)?) $($write:ident)::+) => { $($write)::+($($parts,)? $out) };
+    (@write $out:ident ($($parts:ident)?) $($write:ident)::+($($arguments:expr),*)) => {
+        $($write)::+($($arguments,)* $out)
+    };
+    (@write $out:ident $tag:literal) => { put_nothing($tag, $out) };
     (@write $out:ident $tag:literal $($write:tt)+) => { messages!(@write $out $($write)+) };
     (
         $(#[$doc:meta])*
         read by $read_rest:ident {$(
             $(#[$rest_doc:meta])*
             $rest:ident$(($rest_parts:ident: $rest_type:ty))? = $rest_tag:expr,
-                $($write_rest:ident)::+$(($($rest_arguments:tt)*))?;
+                $($write_rest:ident)::+;
         )*}
         read by tag {$(
             $(#[$row_doc:meta])*
@@ -56,7 +75,7 @@ macro_rules! messages {
             pub fn write<B: Buffer>(&self, out: &mut B) -> Result<(), Refusal> {
                 match self {
                     $(Message::$rest$(($rest_parts))? => {
-                        messages!(@write out ($($rest_parts)?) $($write_rest)::+$(($($rest_arguments)*))?)
+                        messages!(@write out ($($rest_parts)?) $($write_rest)::+)
                     })*
                     $(Message::$name$(($parts))? => {
                         messages!(@write out $tag $(($parts) $($write)::+$(($($arguments)*))?)?)

@@ -24,7 +24,6 @@
 //! ```
 
 mod answer;
-mod front;
 mod pass;
 mod wanted;
 
@@ -33,10 +32,10 @@ pub use wanted::Wanted;
 
 use crate::error::{Fault, Refusal};
 use crate::frame::Frame;
-use crate::sys;
 use alloc::vec::Vec;
 use core::fmt;
-use front::{front_of, Front, Kind};
+use pgmsg_core::pg_frames::frontend::Expects;
+use pgmsg_core::pg_frames::relay::{self as core_relay, FrameBytes, Step};
 
 /// What comes of the bytes that a relay takes.
 #[derive(Clone, Copy, Debug, PartialEq, Eq)]
@@ -59,14 +58,10 @@ pub enum Event<'a> {
 /// after the piece is held, and only where it is wanted whole and has no more bytes than the limit.
 /// Memory is asked for as these bytes come, and never for a length that a message announces.
 pub struct Relay {
-    relay: sys::pgmsg_relay,
+    relay: core_relay::Relay,
     wanted: Wanted,
-    /// The front of a message, or all of it where it has been given.
-    held: Vec<u8>,
-    /// How many bytes of the message are needed at least, where its front is held.
-    needed: usize,
-    /// Whether what is held has been given.
-    is_given: bool,
+    /// The bytes that were given last, where they came in several pieces.
+    joined: FrameBytes<'static>,
     /// How many bytes have been given.
     offset: u64,
 }
@@ -77,30 +72,23 @@ impl Relay {
     ///
     /// The single byte by which a server answers a request for encryption is no part of its stream.
     pub fn of_server(limit: usize, wanted: Wanted) -> Relay {
-        Relay::new(limit, wanted, false)
+        Relay::new(core_relay::Relay::of_server(Default::default(), limit), wanted)
     }
 
     /// A relay of a client's stream from the start of a connection, that takes messages of up to `limit`
     /// bytes whole. Those without a tag always come whole.
     pub fn of_client(limit: usize, wanted: Wanted) -> Relay {
-        Relay::new(limit, wanted, true)
+        Relay::new(core_relay::Relay::of_client(Default::default(), limit), wanted)
     }
 
-    fn new(limit: usize, wanted: Wanted, is_first: bool) -> Relay {
-        Relay {
-            relay: sys::pgmsg_relay { limit, left: 0, is_first },
-            wanted,
-            held: Vec::new(),
-            needed: 0,
-            is_given: false,
-            offset: 0,
-        }
+    fn new(relay: core_relay::Relay, wanted: Wanted) -> Relay {
+        Relay { relay, wanted, joined: FrameBytes::Lying(&[]), offset: 0 }
     }
 
     /// The most bytes of a message that is taken whole.
     #[inline]
     pub fn limit(&self) -> usize {
-        self.relay.limit
+        self.relay.limit()
     }
 
     /// Which messages are wanted whole.
@@ -119,22 +107,19 @@ impl Relay {
     /// Whether a message without a tag comes next, or goes on.
     #[inline]
     pub fn expects_first(&self) -> bool {
-        self.relay.is_first
+        self.relay.expects() == Expects::First
     }
 
     /// What is held: the front of a message that is not whole yet.
     #[inline]
     pub fn held(&self) -> &[u8] {
-        match self.is_given {
-            true => &[],
-            false => &self.held,
-        }
+        self.relay.held()
     }
 
     /// How many bytes are still to come of a message that is passed on in parts.
     #[inline]
     pub fn left(&self) -> usize {
-        self.relay.left
+        self.relay.left()
     }
 
     /// Takes the front of a piece off it, and gives what comes of that: a whole message, a part of one,
@@ -167,93 +152,37 @@ impl Relay {
         &'a mut self,
         piece: &mut &'p [u8],
     ) -> Result<Option<Event<'a>>, Fault> {
-        if self.is_given {
-            self.held.clear();
-            self.is_given = false;
+        self.joined = FrameBytes::Lying(&[]);
+        while !piece.is_empty() {
+            let Step { event, rest } = self.relay.next(&self.wanted, piece)?;
+            *piece = rest;
+            let offset = self.offset;
+            match event {
+                core_relay::Event::Frame { tag, bytes } => {
+                    return Ok(Some(Event::Frame(Frame { tag, bytes: self.give(bytes), offset })))
+                }
+                core_relay::Event::Part { bytes, left } => {
+                    return Ok(Some(Event::Part { bytes: self.give(bytes), left }))
+                }
+                core_relay::Event::Held => {}
+            }
         }
-        if piece.is_empty() {
-            Ok(None)
-        } else if self.held.is_empty() {
-            self.next_in_piece(piece)
-        } else {
-            self.next_joined(piece)
-        }
+        Ok(None)
     }
 
-    /// Where nothing is held.
+    /// Keeps bytes that came in several pieces as long as they are borrowed.
     #[inline]
-    fn next_in_piece<'a, 'p: 'a>(
-        &'a mut self,
-        piece: &mut &'p [u8],
-    ) -> Result<Option<Event<'a>>, Fault> {
-        let Front { kind, count } = front_of(&mut self.relay, &self.wanted, piece)?;
-        if kind == Kind::Short {
-            add(&mut self.held, piece)?;
-            self.needed = count;
-            *piece = &[];
-            return Ok(None);
-        }
-        let bytes = piece.get(..count).ok_or_else(|| Fault::unexpected(count))?;
-        *piece = &piece[count..];
-        Ok(event_of(&self.relay, kind, bytes, &mut self.offset))
-    }
-
-    /// Where the front of a message is held.
-    fn next_joined<'a, 'p: 'a>(
-        &'a mut self,
-        piece: &mut &'p [u8],
-    ) -> Result<Option<Event<'a>>, Fault> {
-        let before = self.held.len();
-        let joined = self.join(piece);
-        if joined.is_err() {
-            self.held.truncate(before);
-        }
-        let (front, rest) = joined?;
-        *piece = rest;
-        match front.kind {
-            Kind::Short => self.needed = front.count,
-            _ => self.is_given = true,
-        }
-        Ok(event_of(&self.relay, front.kind, &self.held, &mut self.offset))
-    }
-
-    /// Holds what is missing of the message at the front: first of its tag and its length, then of all of
-    /// it. What comes of it, and the rest of the piece, which is empty where bytes are missing still.
-    fn join<'p>(&mut self, piece: &'p [u8]) -> Result<(Front, &'p [u8]), Fault> {
-        let (mut needed, mut rest) = (self.needed, piece);
-        loop {
-            let missing = needed.saturating_sub(self.held.len());
-            let (bytes, after) = rest.split_at(missing.min(rest.len()));
-            add(&mut self.held, bytes)?;
-            rest = after;
-            if self.held.len() < needed {
-                return Ok((Front { kind: Kind::Short, count: needed }, rest));
+    fn give<'a, 'p: 'a>(&'a mut self, bytes: FrameBytes<'p>) -> &'a [u8] {
+        let bytes = match bytes {
+            FrameBytes::Lying(bytes) => bytes,
+            FrameBytes::Joined(bytes) => {
+                self.joined = FrameBytes::Joined(bytes);
+                self.joined.as_slice()
             }
-            let front = front_of(&mut self.relay, &self.wanted, &self.held)?;
-            match front.kind {
-                Kind::Short if front.count > needed => needed = front.count,
-                Kind::Whole(_) | Kind::Part if front.count == needed => return Ok((front, rest)),
-                _ => return Err(Fault::unexpected(front.count)),
-            }
-        }
+        };
+        self.offset += bytes.len() as u64;
+        bytes
     }
-}
-
-/// What is given of bytes that the library has found, or nothing where they are too few.
-#[inline]
-fn event_of<'a>(
-    relay: &sys::pgmsg_relay,
-    kind: Kind,
-    bytes: &'a [u8],
-    offset: &mut u64,
-) -> Option<Event<'a>> {
-    let event = match kind {
-        Kind::Short => return None,
-        Kind::Whole(tag) => Event::Frame(Frame { tag, bytes, offset: *offset }),
-        Kind::Part => Event::Part { bytes, left: relay.left },
-    };
-    *offset += bytes.len() as u64;
-    Some(event)
 }
 
 /// Shows how many bytes are held, and not the bytes, which may have a password.

@@ -4,13 +4,13 @@
 //! clock the microseconds since the beginning of the year 2000.
 
 pub mod logical;
+mod mirror;
 
-use crate::answer::part;
-use crate::buffer::Buffer;
+use crate::buffer::{put_answer, Buffer};
 use crate::byte_str::ByteStr;
-use crate::calls::{put, read};
 use crate::error::{Fault, Refusal};
-use crate::sys;
+use mirror::mirrors;
+use pgmsg_core::pg_replication::{self as core_replication, ReplicationMessage};
 
 /// A message of replication, of either side.
 ///
@@ -58,67 +58,66 @@ pub enum Message<'a> {
     Progress(u64),
 }
 
-/// A piece of the log.
-#[derive(Clone, Copy, Debug, Default, PartialEq, Eq)]
-pub struct XLogData<'a> {
-    /// The position at which the piece begins.
-    pub start: u64,
-    /// The position at which the server's log ends.
-    pub end: u64,
-    /// The server's clock.
-    pub clock: i64,
-    /// The piece.
-    pub content: ByteStr<'a>,
-}
+mirrors! {
+    core_replication;
 
-/// A sign that the server is there.
-#[derive(Clone, Copy, Debug, Default, PartialEq, Eq)]
-pub struct PrimaryKeepalive {
-    /// The position at which the server's log ends.
-    pub end: u64,
-    /// The server's clock.
-    pub clock: i64,
-    /// Whether the client is to answer at once.
-    pub wants_reply: bool,
-}
+    /// A piece of the log.
+    pub struct XLogData<'a> {
+        /// The position at which the piece begins.
+        pub start: u64,
+        /// The position at which the server's log ends.
+        pub end: u64,
+        /// The server's clock.
+        pub clock: i64,
+        /// The piece.
+        pub content: ByteStr<'a>,
+    }
 
-/// How far a client has come.
-#[derive(Clone, Copy, Debug, Default, PartialEq, Eq)]
-pub struct StandbyStatusUpdate {
-    /// The position after the last byte of the log that was written.
-    pub written: u64,
-    /// The position after the last byte that was flushed.
-    pub flushed: u64,
-    /// The position after the last byte that was applied.
-    pub applied: u64,
-    /// The client's clock.
-    pub clock: i64,
-    /// Whether the server is to answer at once.
-    pub wants_reply: bool,
-}
+    /// A sign that the server is there.
+    pub struct PrimaryKeepalive {
+        /// The position at which the server's log ends.
+        pub end: u64,
+        /// The server's clock.
+        pub clock: i64,
+        /// Whether the client is to answer at once.
+        pub wants_reply: bool,
+    }
 
-/// Which transactions a client needs from now on.
-#[derive(Clone, Copy, Debug, Default, PartialEq, Eq)]
-pub struct HotStandbyFeedback {
-    /// The client's clock.
-    pub clock: i64,
-    /// The oldest transaction that the client needs, 0 for none.
-    pub xmin: u32,
-    /// Its epoch.
-    pub xmin_epoch: u32,
-    /// The oldest transaction that the slots of the client need, 0 for none.
-    pub catalog_xmin: u32,
-    /// Its epoch.
-    pub catalog_xmin_epoch: u32,
-}
+    /// How far a client has come.
+    pub struct StandbyStatusUpdate {
+        /// The position after the last byte of the log that was written.
+        pub written: u64,
+        /// The position after the last byte that was flushed.
+        pub flushed: u64,
+        /// The position after the last byte that was applied.
+        pub applied: u64,
+        /// The client's clock.
+        pub clock: i64,
+        /// Whether the server is to answer at once.
+        pub wants_reply: bool,
+    }
 
-/// An archive of a backup, which is a tar file.
-#[derive(Clone, Copy, Debug, Default, PartialEq, Eq)]
-pub struct NewArchive<'a> {
-    /// The name of its file.
-    pub name: ByteStr<'a>,
-    /// The folder of its tablespace, empty for the main folder of the data.
-    pub location: ByteStr<'a>,
+    /// Which transactions a client needs from now on.
+    pub struct HotStandbyFeedback {
+        /// The client's clock.
+        pub clock: i64,
+        /// The oldest transaction that the client needs, 0 for none.
+        pub xmin: u32,
+        /// Its epoch.
+        pub xmin_epoch: u32,
+        /// The oldest transaction that the slots of the client need, 0 for none.
+        pub catalog_xmin: u32,
+        /// Its epoch.
+        pub catalog_xmin_epoch: u32,
+    }
+
+    /// An archive of a backup, which is a tar file.
+    pub struct NewArchive<'a> {
+        /// The name of its file.
+        pub name: ByteStr<'a>,
+        /// The folder of its tablespace, empty for the main folder of the data.
+        pub location: ByteStr<'a>,
+    }
 }
 
 impl<'a> Message<'a> {
@@ -127,37 +126,15 @@ impl<'a> Message<'a> {
     /// Refused with [`UnknownMessageType`](Refusal::UnknownMessageType) where no message begins with this byte, and
     /// with [`TrailingBytes`](Refusal::TrailingBytes) where bytes follow the last part of a message.
     pub fn read(data: &'a [u8]) -> Result<Message<'a>, Fault> {
-        let read: sys::pgmsg_replication = read!(pgmsg_read_replication([data]))?;
-        let text = |place| part(data, place).map(ByteStr);
-        let (end, clock, wants_reply) = (read.end, read.clock, read.wants_reply);
-        Ok(match read.letter {
-            b'w' => {
-                let content = text(read.content)?;
-                Message::XLogData(XLogData { start: read.start, end, clock, content })
-            }
-            b'k' => Message::PrimaryKeepalive(PrimaryKeepalive { end, clock, wants_reply }),
-            b'r' => Message::StandbyStatusUpdate(StandbyStatusUpdate {
-                written: read.written,
-                flushed: read.flushed,
-                applied: read.applied,
-                clock,
-                wants_reply,
-            }),
-            b'h' => Message::HotStandbyFeedback(HotStandbyFeedback {
-                clock,
-                xmin: read.xmin,
-                xmin_epoch: read.xmin_epoch,
-                catalog_xmin: read.catalog_xmin,
-                catalog_xmin_epoch: read.catalog_xmin_epoch,
-            }),
-            b'n' => {
-                let (name, location) = (text(read.name)?, text(read.location)?);
-                Message::NewArchive(NewArchive { name, location })
-            }
-            b'm' => Message::Manifest,
-            b'd' => Message::BackupData(text(read.content)?),
-            b'p' => Message::Progress(read.processed),
-            letter => return Err(Fault::unexpected(letter.into())),
+        Ok(match ReplicationMessage::read(data)? {
+            ReplicationMessage::XLogData(it) => Message::XLogData(it.into()),
+            ReplicationMessage::PrimaryKeepalive(it) => Message::PrimaryKeepalive(it.into()),
+            ReplicationMessage::StandbyStatusUpdate(it) => Message::StandbyStatusUpdate(it.into()),
+            ReplicationMessage::HotStandbyFeedback(it) => Message::HotStandbyFeedback(it.into()),
+            ReplicationMessage::NewArchive(it) => Message::NewArchive(it.into()),
+            ReplicationMessage::Manifest(_) => Message::Manifest,
+            ReplicationMessage::BackupData(it) => Message::BackupData(it.content.into()),
+            ReplicationMessage::Progress(it) => Message::Progress(it.processed),
         })
     }
 
@@ -166,54 +143,39 @@ impl<'a> Message<'a> {
     /// Refused with [`TextHoldsNul`](Refusal::TextHoldsNul) where a text of a [`NewArchive`] holds a NUL, and with
     /// [`MessageTooLong`](Refusal::MessageTooLong) where the content is too long.
     pub fn write<B: Buffer>(&self, out: &mut B) -> Result<(), Refusal> {
-        let message = self.parts();
-        // What it points to is borrowed as long as `self` is.
-        put!(out, pgmsg_put_replication(&message))
+        match *self {
+            Message::XLogData(it) => put_answer(&core_replication::XLogData::from(it), out),
+            Message::PrimaryKeepalive(it) => {
+                put_answer(&core_replication::PrimaryKeepalive::from(it), out)
+            }
+            Message::StandbyStatusUpdate(it) => {
+                put_answer(&core_replication::StandbyStatusUpdate::from(it), out)
+            }
+            Message::HotStandbyFeedback(it) => {
+                put_answer(&core_replication::HotStandbyFeedback::from(it), out)
+            }
+            Message::NewArchive(it) => put_answer(&core_replication::NewArchive::from(it), out),
+            Message::Manifest => put_answer(&core_replication::Manifest, out),
+            Message::BackupData(content) => {
+                put_answer(&core_replication::BackupData { content: content.0 }, out)
+            }
+            Message::Progress(processed) => {
+                put_answer(&core_replication::Progress { processed }, out)
+            }
+        }
     }
 
     /// The byte that the data begins with.
     pub fn letter(&self) -> u8 {
-        self.parts().letter
-    }
-
-    /// The message as the library takes it. It points to the bytes of the message.
-    fn parts(&self) -> sys::pgmsg_replication_text {
-        let mut parts = sys::pgmsg_replication_text::default();
-        match *self {
-            Message::XLogData(XLogData { start, end, clock, content }) => {
-                parts.letter = b'w';
-                (parts.start, parts.end, parts.clock) = (start, end, clock);
-                (parts.content, parts.content_len) = (content.as_ptr(), content.len());
-            }
-            Message::PrimaryKeepalive(PrimaryKeepalive { end, clock, wants_reply }) => {
-                parts.letter = b'k';
-                (parts.end, parts.clock, parts.wants_reply) = (end, clock, wants_reply);
-            }
-            Message::StandbyStatusUpdate(update) => {
-                parts.letter = b'r';
-                (parts.written, parts.flushed, parts.applied) =
-                    (update.written, update.flushed, update.applied);
-                (parts.clock, parts.wants_reply) = (update.clock, update.wants_reply);
-            }
-            Message::HotStandbyFeedback(feedback) => {
-                parts.letter = b'h';
-                parts.clock = feedback.clock;
-                (parts.xmin, parts.xmin_epoch) = (feedback.xmin, feedback.xmin_epoch);
-                (parts.catalog_xmin, parts.catalog_xmin_epoch) =
-                    (feedback.catalog_xmin, feedback.catalog_xmin_epoch);
-            }
-            Message::NewArchive(NewArchive { name, location }) => {
-                parts.letter = b'n';
-                (parts.name, parts.name_len) = (name.as_ptr(), name.len());
-                (parts.location, parts.location_len) = (location.as_ptr(), location.len());
-            }
-            Message::Manifest => parts.letter = b'm',
-            Message::BackupData(content) => {
-                parts.letter = b'd';
-                (parts.content, parts.content_len) = (content.as_ptr(), content.len());
-            }
-            Message::Progress(processed) => (parts.letter, parts.processed) = (b'p', processed),
+        match self {
+            Message::XLogData(_) => b'w',
+            Message::PrimaryKeepalive(_) => b'k',
+            Message::StandbyStatusUpdate(_) => b'r',
+            Message::HotStandbyFeedback(_) => b'h',
+            Message::NewArchive(_) => b'n',
+            Message::Manifest => b'm',
+            Message::BackupData(_) => b'd',
+            Message::Progress(_) => b'p',
         }
-        parts
     }
 }

@@ -4,40 +4,25 @@ mod cells;
 
 pub use cells::{Cell, Cells};
 
-use crate::answer::fill;
-use crate::calls::ask;
-use crate::error::Fault;
+use crate::body::checked;
+use crate::error::{Fault, Refusal};
 use crate::list::List;
 use crate::value::Value;
 use alloc::vec;
 use alloc::vec::Vec;
+use cells::{Places, LENGTH};
 use core::fmt;
-
-/// The most values of a message whose places need no allocation.
-const FEW: usize = 32;
-
-/// The values of a body, by a call that gives as many places of them as there is room for, and their count.
-#[inline]
-pub(crate) fn read_values(
-    body: &[u8],
-    mut call: impl FnMut(&mut [Cell]) -> Result<usize, Fault>,
-) -> Result<List<'_, Value<'_>>, Fault> {
-    let mut few = [Cell::default(); FEW];
-    let count = call(&mut few)?;
-    match few.get(..count) {
-        Some(cells) => Ok(values_at(body, cells)),
-        None => Ok(values_at(body, fill(&mut vec![Cell::default(); count], call)?)),
-    }
-}
-
-fn values_at<'b>(body: &'b [u8], cells: &[Cell]) -> List<'b, Value<'b>> {
-    cells.iter().map(|cell| cell.value(body).into()).collect()
-}
+use pgmsg_core::pg_format::items::Items;
+use pgmsg_core::pg_receive::message::RowReader;
 
 /// Reads the body of a DataRow.
-#[inline]
 pub(crate) fn read(body: &[u8]) -> Result<List<'_, Value<'_>>, Fault> {
-    read_values(body, |room| places_in(body, room))
+    let mut reader = RowReader::new(checked(body)?)?;
+    let mut values = Vec::with_capacity(reader.len());
+    while let Some(value) = reader.next_cell()? {
+        values.push(value.into());
+    }
+    Ok(values.into())
 }
 
 /// Reads rows, and keeps the room for the places of their cells from one row to the next.
@@ -71,8 +56,21 @@ impl RowIndex {
     /// It allocates only for a row of more cells than any row before.
     #[inline]
     pub fn read<'b>(&mut self, body: &'b [u8]) -> Result<Row<'b, '_>, Fault> {
-        let cells = fill(&mut self.cells, |room| places_in(body, room))?;
-        Ok(Row { body, cells })
+        let count = places_in(body, &mut self.cells)?;
+        if count > self.cells.len() {
+            self.grow(count)?;
+            places_in(body, &mut self.cells)?;
+        }
+        Ok(Row { body, cells: &self.cells[..count] })
+    }
+
+    /// Makes room for rows of so many cells.
+    #[cold]
+    fn grow(&mut self, cells: usize) -> Result<(), Refusal> {
+        let missing = cells - self.cells.len();
+        self.cells.try_reserve(missing).map_err(|_| Refusal::OutOfMemory)?;
+        self.cells.resize(cells, Cell::default());
+        Ok(())
     }
 }
 
@@ -88,12 +86,9 @@ impl RowIndex {
 /// ```
 #[inline]
 pub fn places_in(body: &[u8], room: &mut [Cell]) -> Result<usize, Fault> {
-    // A `Cell` is one of the library.
-    let (start, length) = (room.as_mut_ptr().cast(), room.len());
-    let count = ask!(pgmsg_read_row([body], start, length))?;
-    // The library is proved to give no other place.
-    debug_assert!(room.iter().take(count).all(|cell| cell.is_in(body)));
-    Ok(count)
+    let cells = Items::begin(checked(body)?, LENGTH)?;
+    cells.read_all_quickly(LENGTH, &mut Places(room.iter_mut()))?;
+    Ok(cells.len())
 }
 
 /// A row: for each column the bytes of its value, or `None` where it is NULL.
@@ -102,8 +97,6 @@ pub fn places_in(body: &[u8], room: &mut [Cell]) -> Result<usize, Fault> {
 #[derive(Clone, Copy)]
 pub struct Row<'b, 'r> {
     body: &'b [u8],
-    /// Each is NULL or lies in the body, as of those that the library gave of it: `version::check` has found that
-    /// it is the one which is declared.
     cells: &'r [Cell],
 }
 
@@ -129,8 +122,7 @@ impl<'b, 'r> Row<'b, 'r> {
     /// The cells in order.
     #[inline]
     pub fn iter(&self) -> Cells<'b, 'r> {
-        // SAFETY: each cell is NULL or lies in the body.
-        unsafe { Cells::new(self.body, self.cells) }
+        Cells::new(self.body, self.cells)
     }
 
     /// The places of the cells in the body.

@@ -90,8 +90,14 @@ impl From<Refusal> for Error {
     }
 }
 
-#[cfg(feature = "std")]
-impl std::error::Error for Error {}
+impl core::error::Error for Error {
+    fn source(&self) -> Option<&(dyn core::error::Error + 'static)> {
+        match self {
+            Error::Fault(fault) => fault.source(),
+            _ => None,
+        }
+    }
+}
 
 /// An error of the kind `InvalidData`, or `PermissionDenied` where a proof or a verifier is wrong.
 #[cfg(feature = "std")]

@@ -1,10 +1,10 @@
 //! The values of parameters and rows, and their formats.
 
 use crate::byte_str::ByteStr;
-use crate::sys;
 use core::fmt;
-use core::marker::PhantomData;
-use core::slice;
+use pgmsg_core::pg_send::message::counted::Code;
+use pgmsg_core::pg_send::message::values::AsValue;
+use pgmsg_core::pg_server::backend::AsItem;
 
 /// A value of a parameter, an argument or a row: bytes, which it borrows, or NULL.
 ///
@@ -15,61 +15,41 @@ use core::slice;
 /// assert_eq!(values[1].bytes(), Some(&b"five"[..]));
 /// assert_eq!(values[3].bytes(), None);
 /// ```
-#[derive(Clone, Copy)]
-#[repr(transparent)]
-pub struct Value<'a> {
-    /// The bytes are a slice that is borrowed for `'a`, also where it is NULL.
-    value: sys::pgmsg_value,
-    bytes: PhantomData<&'a [u8]>,
-}
-
-// SAFETY: it is a slice that is borrowed, and a bool.
-unsafe impl Send for Value<'_> {}
-
-// SAFETY: it is a slice that is borrowed, and a bool.
-unsafe impl Sync for Value<'_> {}
+#[derive(Clone, Copy, Default, PartialEq, Eq, Hash)]
+pub struct Value<'a>(Option<&'a [u8]>);
 
 impl<'a> Value<'a> {
     /// The value NULL.
-    pub const NULL: Value<'static> = Value::of(&[], true);
+    pub const NULL: Value<'static> = Value(None);
 
     /// A value that is these bytes.
     #[inline]
     pub const fn new(bytes: &'a [u8]) -> Value<'a> {
-        Value::of(bytes, false)
-    }
-
-    #[inline]
-    const fn of(bytes: &'a [u8], is_null: bool) -> Value<'a> {
-        Value {
-            value: sys::pgmsg_value { bytes: bytes.as_ptr(), bytes_len: bytes.len(), is_null },
-            bytes: PhantomData,
-        }
+        Value(Some(bytes))
     }
 
     /// The bytes of the value, or `None` where it is NULL.
     #[inline]
-    pub fn bytes(self) -> Option<&'a [u8]> {
-        // SAFETY: the two are of a slice that is borrowed for `'a`.
-        let bytes = unsafe { slice::from_raw_parts(self.value.bytes, self.value.bytes_len) };
-        Some(bytes).filter(|_| !self.value.is_null)
-    }
-
-    /// Values as the library takes them: each is one of the library.
-    #[inline]
-    pub(crate) fn list<'v>(values: &'v [Value<'_>]) -> &'v [sys::pgmsg_value] {
-        // SAFETY: it is the same slice.
-        unsafe { slice::from_raw_parts(values.as_ptr().cast(), values.len()) }
+    pub const fn bytes(self) -> Option<&'a [u8]> {
+        self.0
     }
 }
 
-impl PartialEq for Value<'_> {
-    fn eq(&self, other: &Value<'_>) -> bool {
-        self.bytes() == other.bytes()
+/// As a client writes it.
+impl AsValue for Value<'_> {
+    #[inline(always)]
+    fn as_value(&self) -> Option<&[u8]> {
+        self.0
     }
 }
 
-impl Eq for Value<'_> {}
+/// As a server writes it.
+impl<'a> AsItem<Option<&'a [u8]>> for Value<'a> {
+    #[inline(always)]
+    fn as_item(&self) -> Option<&'a [u8]> {
+        self.0
+    }
+}
 
 impl<'a, T: AsRef<[u8]> + ?Sized> From<&'a T> for Value<'a> {
     #[inline]
@@ -88,7 +68,7 @@ impl<'a, T: Into<Value<'a>>> From<Option<T>> for Value<'a> {
 
 impl fmt::Debug for Value<'_> {
     fn fmt(&self, f: &mut fmt::Formatter<'_>) -> fmt::Result {
-        match self.bytes() {
+        match self.0 {
             Some(bytes) => ByteStr(bytes).fmt(f),
             None => f.write_str("NULL"),
         }
@@ -104,7 +84,6 @@ impl fmt::Debug for Value<'_> {
 /// assert_eq!((Format::default(), Format(1)), (Format::TEXT, Format::BINARY));
 /// ```
 #[derive(Clone, Copy, Debug, Default, PartialEq, Eq, Hash)]
-#[repr(transparent)]
 pub struct Format(pub i16);
 
 impl Format {
@@ -112,4 +91,11 @@ impl Format {
     pub const TEXT: Format = Format(0);
     /// In the binary form of its type.
     pub const BINARY: Format = Format(1);
+}
+
+impl Code for Format {
+    #[inline(always)]
+    fn code(&self) -> u16 {
+        self.0 as u16
+    }
 }

@@ -1,12 +1,9 @@
 //! Values that are spelled one after the other.
 
 use crate::buffer::Buffer;
-use crate::sys;
 use crate::value::Value;
 use alloc::vec::Vec;
 use core::fmt;
-use core::ptr::NonNull;
-use core::slice;
 
 /// The values of parameters, spelled one after the other into one buffer.
 ///
@@ -33,15 +30,9 @@ pub struct Values<B = Vec<u8>> {
     buffer: B,
     /// How many bytes of the buffer are those of values. More are there where what spells one panicked.
     end: usize,
-    /// The length of each value, none where it is NULL. `list` sets the places.
-    values: Vec<sys::pgmsg_value>,
+    /// The length of each value, none where it is NULL.
+    lengths: Vec<Option<usize>>,
 }
-
-// SAFETY: the places are read only after `list` has set them.
-unsafe impl<B: Send> Send for Values<B> {}
-
-// SAFETY: the places are read only after `list` has set them.
-unsafe impl<B: Sync> Sync for Values<B> {}
 
 impl<B: Buffer> Values<B> {
     /// Adds a value: the bytes that `spell` appends to the buffer, or NULL where it answers `None`.
@@ -61,29 +52,21 @@ impl<B: Buffer> Values<B> {
             self.buffer.truncate(start);
         }
         self.end = self.buffer.bytes().len();
-        let is_null = spelled?.is_none();
-        self.values.push(sys::pgmsg_value {
-            bytes: NonNull::dangling().as_ptr(),
-            bytes_len: self.end.saturating_sub(start),
-            is_null,
-        });
+        let length = self.end.saturating_sub(start);
+        self.lengths.push(spelled?.map(|()| length));
         Ok(())
     }
 
     /// The values.
-    #[inline]
-    pub fn list(&mut self) -> &[Value<'_>] {
+    pub fn list(&self) -> Vec<Value<'_>> {
         let mut rest = self.buffer.bytes();
-        for value in &mut self.values {
+        let value_of = |length: &Option<usize>| {
             // There are as many, unless what spelled a later value took bytes of this one away.
-            let (bytes, after) = rest.split_at(value.bytes_len.min(rest.len()));
-            value.bytes = bytes.as_ptr();
-            value.bytes_len = bytes.len();
+            let (bytes, after) = rest.split_at((*length)?.min(rest.len()));
             rest = after;
-        }
-        // SAFETY: a `Value` is one of the library, and each is a slice of the buffer, which is
-        // borrowed as long as the list.
-        unsafe { slice::from_raw_parts(self.values.as_ptr().cast(), self.values.len()) }
+            Some(bytes)
+        };
+        self.lengths.iter().map(value_of).map(Value::from).collect()
     }
 
     /// How many bytes the values have together.
@@ -97,13 +80,13 @@ impl<B: Buffer> Values<B> {
     pub fn clear(&mut self) {
         self.buffer.truncate(0);
         self.end = 0;
-        self.values.clear();
+        self.lengths.clear();
     }
 }
 
 /// Shows the number of values alone, since the bytes may hold a password.
 impl<B> fmt::Debug for Values<B> {
     fn fmt(&self, f: &mut fmt::Formatter<'_>) -> fmt::Result {
-        f.debug_struct("Values").field("len", &self.values.len()).finish_non_exhaustive()
+        f.debug_struct("Values").field("len", &self.lengths.len()).finish_non_exhaustive()
     }
 }

@@ -1,20 +1,18 @@
 //! The answers that are a word, a value or nothing, and those that aren't known here.
 
 use super::Message;
-use crate::answer::part;
-use crate::buffer::Buffer;
+use crate::body::checked;
+use crate::buffer::{put_answer, Buffer};
 use crate::byte_str::ByteStr;
-use crate::calls::{put, read};
 use crate::error::{Fault, Refusal};
-use crate::row::Cell;
-use crate::sys;
 use crate::value::Value;
+use pgmsg_core::pg_receive::message::{self as received, command_tag, FunctionCallResponseRef};
+use pgmsg_core::pg_server::backend::{FunctionCallResponseText, RawText};
 
 /// Reads the text of a command's tag, without its NUL.
 #[inline]
 pub(super) fn read_command(body: &[u8]) -> Result<ByteStr<'_>, Fault> {
-    let read: sys::pgmsg_command = read!(pgmsg_read_command_complete([body]))?;
-    part(body, read.tag).map(ByteStr)
+    Ok(ByteStr(command_tag(checked(body)?)?))
 }
 
 /// How many rows a command had to do with, by its tag: the number after the last space, and 0 where there
@@ -27,9 +25,7 @@ pub(super) fn read_command(body: &[u8]) -> Result<ByteStr<'_>, Fault> {
 /// ```
 #[inline]
 pub fn rows_affected(tag: &[u8]) -> u64 {
-    let body = [tag, b"\0"].concat();
-    let read = read!(pgmsg_read_command_complete([body]));
-    read.map_or(0, |read: sys::pgmsg_command| read.rows)
+    received::rows_affected(tag)
 }
 
 /// The result of a function that was called, or NULL.
@@ -49,16 +45,15 @@ pub struct FunctionCallResponse<'a>(pub Value<'a>);
 impl<'a> FunctionCallResponse<'a> {
     /// Reads the body of a FunctionCallResponse.
     pub fn read(body: &'a [u8]) -> Result<FunctionCallResponse<'a>, Fault> {
-        let cell = read!(pgmsg_read_function_result([body]))?;
-        Ok(FunctionCallResponse(Cell::new(cell).value(body).into()))
+        let response = FunctionCallResponseRef::read(checked(body)?)?;
+        Ok(FunctionCallResponse(response.value.into()))
     }
 
     /// Appends the message.
     ///
     /// Refused with [`MessageTooLong`](Refusal::MessageTooLong) above 2147483639 bytes.
     pub fn write<B: Buffer>(&self, out: &mut B) -> Result<(), Refusal> {
-        let bytes = self.0.bytes().unwrap_or_default();
-        put!(out, pgmsg_put_function_result([bytes], self.0.bytes().is_none()))
+        put_answer(&FunctionCallResponseText { value: self.0.bytes() }, out)
     }
 }
 
@@ -81,13 +76,17 @@ pub struct Other<'a> {
 impl Other<'_> {
     /// Appends the message.
     pub fn write<B: Buffer>(&self, out: &mut B) -> Result<(), Refusal> {
-        put!(out, pgmsg_put_frame(self.tag, [self.body]))
+        put_answer(&RawText { tag: self.tag, body: &self.body }, out)
     }
 }
 
 /// Takes the body of a message of another tag.
 pub(super) fn read_other(tag: Option<u8>, body: &[u8]) -> Result<Message<'_>, Fault> {
-    let tag = tag.ok_or_else(|| Fault::unknown("message without a tag".into()))?;
-    let body = ByteStr(body);
-    Ok(Message::Other(Other { tag, body }))
+    match tag {
+        Some(tag) => Ok(Message::Other(Other { tag, body: ByteStr(body) })),
+        None => Err(Fault {
+            words: "message without a tag".into(),
+            ..Refusal::UnknownMessageType.into()
+        }),
+    }
 }

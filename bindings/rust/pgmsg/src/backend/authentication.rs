@@ -1,14 +1,15 @@
 //! What the server asks of a client that opens a session.
 
-use super::end;
-use super::status::texts_of;
-use crate::answer::part;
-use crate::buffer::Buffer;
+use crate::body::checked;
+use crate::buffer::{put_answer, put_sound, Buffer};
 use crate::byte_str::{ByteStr, Secret};
-use crate::calls::{list, put, read};
 use crate::error::{Fault, Refusal};
 use crate::list::List;
-use crate::sys;
+use core::iter;
+use pgmsg_core::pg_base::io::part::{Number32, Slice, Then};
+use pgmsg_core::pg_base::io::u32_at;
+use pgmsg_core::pg_receive::message::{split_raw_name, RawAuthentication};
+use pgmsg_core::pg_server::backend::SaslText;
 
 /// The bytes of the number of a method.
 const METHOD: usize = 4;
@@ -56,22 +57,21 @@ pub enum Authentication<'a> {
 impl<'a> Authentication<'a> {
     /// Reads the body of an Authentication.
     pub fn read(body: &'a [u8]) -> Result<Authentication<'a>, Fault> {
-        let raw: sys::pgmsg_authentication = read!(pgmsg_read_authentication([body]))?;
-        let content = Secret(part(body, raw.content)?);
-        match raw.method {
-            0 => Ok(Authentication::Ok),
-            2 => Ok(Authentication::KerberosV5),
-            3 => Ok(Authentication::CleartextPassword),
-            5 => read_salt(body).map(Authentication::Md5Password),
-            6 => Ok(Authentication::ScmCredential),
-            7 => Ok(Authentication::Gss),
-            8 => Ok(Authentication::GssContinue(content)),
-            9 => Ok(Authentication::Sspi),
-            10 => read_mechanisms(body).map(Authentication::Sasl),
-            11 => Ok(Authentication::SaslContinue(content)),
-            12 => Ok(Authentication::SaslFinal(content)),
-            method => Ok(Authentication::Other(method, content)),
-        }
+        let RawAuthentication { method, content } = RawAuthentication::read(checked(body)?)?;
+        Ok(match method {
+            0 => Authentication::Ok,
+            2 => Authentication::KerberosV5,
+            3 => Authentication::CleartextPassword,
+            5 => Authentication::Md5Password(u32_at(body, METHOD)?.to_be_bytes()),
+            6 => Authentication::ScmCredential,
+            7 => Authentication::Gss,
+            8 => Authentication::GssContinue(Secret(content)),
+            9 => Authentication::Sspi,
+            10 => Authentication::Sasl(mechanisms(content)),
+            11 => Authentication::SaslContinue(Secret(content)),
+            12 => Authentication::SaslFinal(Secret(content)),
+            method => Authentication::Other(method, Secret(content)),
+        })
     }
 
     /// The number of the method.
@@ -105,14 +105,13 @@ impl<'a> Authentication<'a> {
             | Authentication::Gss
             | Authentication::Sspi => b"",
             Authentication::Md5Password(salt) => &salt[..],
-            Authentication::Sasl(mechanisms) => return write_mechanisms(mechanisms, out),
+            Authentication::Sasl(mechanisms) => return put_answer(&SaslText { mechanisms }, out),
             Authentication::GssContinue(data)
             | Authentication::SaslContinue(data)
             | Authentication::SaslFinal(data)
             | Authentication::Other(_, data) => data.0,
         };
-        let body = [&self.method().to_be_bytes(), content].concat();
-        put!(out, pgmsg_put_frame(b'R', [body]))
+        put_sound(b'R', Then(Number32(self.method()), Slice(content)), Ok(()), out)
     }
 
     /// Whether the request belongs to a secret: it carries data of an exchange.
@@ -127,19 +126,13 @@ impl<'a> Authentication<'a> {
     }
 }
 
-/// The salt, whose four bytes have to be there.
-fn read_salt(body: &[u8]) -> Result<[u8; 4], Fault> {
-    let salt = body.get(METHOD..end(b'R', body)?);
-    salt.and_then(|salt| salt.try_into().ok()).ok_or_else(|| Fault::unexpected(METHOD))
-}
-
-fn read_mechanisms<'a>(body: &'a [u8]) -> Result<List<'a, ByteStr<'a>>, Fault> {
-    let places = list!(pgmsg_read_mechanisms([body]))?;
-    let names = places.iter().map(|&place| part(body, place).map(ByteStr));
-    names.collect()
-}
-
-fn write_mechanisms<B: Buffer>(names: &[ByteStr<'_>], out: &mut B) -> Result<(), Refusal> {
-    let names = texts_of(names);
-    put!(out, pgmsg_put_authentication_sasl([names]))
+/// The names of the mechanisms that are offered, up to an empty one.
+fn mechanisms(names: &[u8]) -> List<'_, ByteStr<'_>> {
+    let mut rest = names;
+    let next = || {
+        let (name, after) = split_raw_name(rest)?;
+        rest = after;
+        Some(ByteStr(name))
+    };
+    iter::from_fn(next).collect()
 }

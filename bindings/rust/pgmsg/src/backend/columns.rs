@@ -1,14 +1,20 @@
 //! The columns of a result, and the types of a statement's parameters.
 
-use crate::answer::{items, part};
-use crate::buffer::Buffer;
+use crate::body::checked;
+use crate::buffer::{put_answer, Buffer};
 use crate::byte_str::ByteStr;
-use crate::calls::{ask, put};
 use crate::error::{Fault, Refusal};
 use crate::list::List;
-use crate::sys;
 use crate::value::Format;
+use crate::Oid;
 use alloc::vec::Vec;
+use pgmsg_core::pg_base::io::{self, part::Number32};
+use pgmsg_core::pg_format::items::Items;
+use pgmsg_core::pg_receive::message::{ColumnReader, RawFieldRef};
+use pgmsg_core::pg_server::backend::{AsItem, ColumnText, RowDescriptionText};
+
+/// The bytes of the number of a type.
+const OID: usize = 4;
 
 /// A column of a result.
 #[derive(Clone, Copy, Debug, PartialEq, Eq)]
@@ -16,11 +22,11 @@ pub struct Column<'a> {
     /// The name of the column.
     pub name: ByteStr<'a>,
     /// The object id of the table that the column is of, 0 where it is of none.
-    pub table: u32,
+    pub table: Oid,
     /// The number of the column in its table, 0 where it is of none.
     pub attribute: i16,
     /// The object id of the type.
-    pub type_id: u32,
+    pub type_id: Oid,
     /// How many bytes a value of the type has. It is below 0 where that varies.
     pub type_size: i16,
     /// The modifier of the type, whose meaning depends on the type.
@@ -38,7 +44,7 @@ impl<'a> Column<'a> {
     /// let id = Column { type_size: 4, ..Column::new("id", 23) };
     /// assert_eq!((id.name, id.type_modifier, id.table), ("id".into(), -1, 0));
     /// ```
-    pub fn new<T: AsRef<[u8]> + ?Sized>(name: &'a T, type_id: u32) -> Column<'a> {
+    pub fn new<T: AsRef<[u8]> + ?Sized>(name: &'a T, type_id: Oid) -> Column<'a> {
         Column {
             name: name.into(),
             table: 0,
@@ -49,29 +55,32 @@ impl<'a> Column<'a> {
             format: Format::TEXT,
         }
     }
+}
 
-    fn of(body: &'a [u8], column: &sys::pgmsg_column) -> Result<Column<'a>, Fault> {
-        Ok(Column {
-            name: ByteStr(part(body, column.name)?),
-            table: column.table,
-            attribute: column.attribute,
-            type_id: column.type_id,
-            type_size: column.type_size,
+impl<'a> From<RawFieldRef<'a>> for Column<'a> {
+    fn from(column: RawFieldRef<'a>) -> Column<'a> {
+        Column {
+            name: ByteStr(column.name),
+            table: column.relation_id.map_or(0, |table| table.0),
+            attribute: column.relation_attribute_no.unwrap_or(0),
+            type_id: column.data_type_id.0,
+            type_size: column.data_type_size,
             type_modifier: column.type_modifier,
             format: Format(column.format),
-        })
+        }
     }
+}
 
-    /// The column as the library takes it. It points to the name.
-    fn text(&self) -> sys::pgmsg_column_text {
-        sys::pgmsg_column_text {
-            name: self.name.as_ptr(),
-            name_len: self.name.len(),
-            table: self.table,
+/// As it is written.
+impl<'a> AsItem<ColumnText<'a>> for Column<'a> {
+    fn as_item(&self) -> ColumnText<'a> {
+        ColumnText {
+            name: self.name.0,
+            table: io::Oid(self.table),
             attribute: self.attribute,
-            type_id: self.type_id,
-            type_size: self.type_size,
-            type_modifier: self.type_modifier,
+            data_type: io::Oid(self.type_id),
+            size: self.type_size,
+            modifier: self.type_modifier,
             format: self.format.0,
         }
     }
@@ -79,17 +88,24 @@ impl<'a> Column<'a> {
 
 /// Reads the body of a RowDescription.
 pub(super) fn read<'a>(body: &'a [u8]) -> Result<List<'a, Column<'a>>, Fault> {
-    let columns = items(|room| ask!(pgmsg_read_columns([body], mut [room])))?;
-    let columns = columns.iter().map(|column| Column::of(body, column));
-    columns.collect()
+    let mut reader = ColumnReader::new(checked(body)?)?;
+    let mut columns = Vec::with_capacity(reader.len());
+    while let Some(column) = reader.next_raw_column()? {
+        columns.push(column.into());
+    }
+    Ok(columns.into())
 }
 
 pub(super) fn write<B: Buffer>(columns: &[Column<'_>], out: &mut B) -> Result<(), Refusal> {
-    let columns: Vec<_> = columns.iter().map(Column::text).collect();
-    put!(out, pgmsg_put_columns([columns]))
+    put_answer(&RowDescriptionText { columns }, out)
 }
 
 /// Reads the body of a ParameterDescription.
-pub(super) fn read_types(body: &[u8]) -> Result<List<'static, u32>, Fault> {
-    items(|room| ask!(pgmsg_read_parameter_types([body], mut [room]))).map(List::from)
+pub(super) fn read_types(body: &[u8]) -> Result<List<'static, Oid>, Fault> {
+    let mut reader = Items::begin(checked(body)?, OID)?;
+    let mut types = Vec::with_capacity(reader.len());
+    while let Some(Number32(oid)) = reader.next()? {
+        types.push(oid);
+    }
+    Ok(types.into())
 }

@@ -1,12 +1,13 @@
 //! How the data of a COPY is spelled.
 
-use crate::answer::items;
-use crate::calls::ask;
-use crate::error::Fault;
+use crate::body::checked;
+use crate::buffer::{put_answer, Buffer};
+use crate::error::{Fault, Refusal};
 use crate::list::List;
-use crate::sys;
 use crate::value::Format;
-use core::slice;
+use alloc::vec::Vec;
+use pgmsg_core::pg_receive::message::CopyResponseRef;
+use pgmsg_core::pg_server::backend::{CopyDirection, CopyResponseText};
 
 /// How the data of a COPY is spelled.
 ///
@@ -32,19 +33,19 @@ pub struct CopyResponse<'a> {
 impl CopyResponse<'_> {
     /// Reads the body of a CopyInResponse, a CopyOutResponse or a CopyBothResponse.
     pub fn read(body: &[u8]) -> Result<CopyResponse<'static>, Fault> {
-        let mut response = sys::pgmsg_copy_response::default();
-        // A `Format` is a number of the library.
-        let columns = items(|room: &mut [Format]| {
-            let (start, length) = (room.as_mut_ptr().cast(), room.len());
-            ask!(pgmsg_read_copy_response([body], &mut response, start, length))
-        })?;
-        Ok(CopyResponse { format: response.format, columns: columns.into() })
+        let CopyResponseRef { format, format_codes, .. } = CopyResponseRef::read(checked(body)?)?;
+        let columns = List::of(format_codes.len(), format_codes.map(Format))?;
+        Ok(CopyResponse { format, columns })
     }
+}
 
-    /// The formats of the columns as the library takes them: each is 16 bits.
-    pub(super) fn codes(&self) -> &[i16] {
-        let (start, length) = (self.columns.as_ptr().cast(), self.columns.len());
-        // SAFETY: it is the same slice, since a `Format` is a number of the library.
-        unsafe { slice::from_raw_parts(start, length) }
-    }
+/// Appends one of the three messages.
+pub(super) fn write<B: Buffer>(
+    direction: CopyDirection,
+    response: &CopyResponse<'_>,
+    out: &mut B,
+) -> Result<(), Refusal> {
+    let format_codes: Vec<_> = response.columns.iter().map(|format| format.0).collect();
+    let (format, format_codes) = (response.format, &format_codes[..]);
+    put_answer(&CopyResponseText { direction, format, format_codes }, out)
 }

@@ -1,13 +1,20 @@
 //! What a session reports of itself.
 
-use crate::answer::{items, part};
-use crate::buffer::Buffer;
+use crate::body::checked;
+use crate::buffer::{put_answer, put_sound, Buffer};
 use crate::byte_str::{ByteStr, Secret};
-use crate::calls::{ask, put, read};
 use crate::error::{Fault, Refusal};
 use crate::list::List;
-use crate::sys;
-use alloc::vec::Vec;
+use core::fmt;
+use pgmsg_core::pg_base::io::part::{Byte, Number16, Then};
+use pgmsg_core::pg_receive::message::{
+    self as received, NegotiateProtocolVersionRef, NotificationRef, RawKeyData, RawParameterStatus,
+    ReadyForQuery,
+};
+use pgmsg_core::pg_server::backend::{
+    BackendKeyDataText, BackendText, NegotiateProtocolVersionText, NotificationText,
+    ParameterStatusText,
+};
 
 /// What a request to cancel has to name.
 ///
@@ -32,11 +39,8 @@ pub struct BackendKeyData<'a> {
 impl<'a> BackendKeyData<'a> {
     /// Reads the body of a BackendKeyData.
     pub fn read(body: &'a [u8]) -> Result<BackendKeyData<'a>, Fault> {
-        let read: sys::pgmsg_key_data = read!(pgmsg_read_key_data([body]))?;
-        Ok(BackendKeyData {
-            process_id: read.process_id,
-            secret_key: Secret(part(body, read.secret_key)?),
-        })
+        let RawKeyData { process_id, secret_key } = RawKeyData::read(checked(body)?)?;
+        Ok(BackendKeyData { process_id, secret_key: Secret(secret_key) })
     }
 
     /// Appends the message.
@@ -44,7 +48,8 @@ impl<'a> BackendKeyData<'a> {
     /// Refused with [`BadKeyLength`](Refusal::BadKeyLength) where the key has fewer than 4 bytes, or more
     /// than 256.
     pub fn write<B: Buffer>(&self, out: &mut B) -> Result<(), Refusal> {
-        put!(out, pgmsg_put_backend_key_data(self.process_id, [self.secret_key.0]))
+        let (process_id, secret_key) = (self.process_id, self.secret_key.0);
+        put_answer(&BackendKeyDataText { process_id, secret_key }, out)
     }
 }
 
@@ -72,11 +77,11 @@ pub struct NotificationResponse<'a> {
 impl<'a> NotificationResponse<'a> {
     /// Reads the body of a NotificationResponse.
     pub fn read(body: &'a [u8]) -> Result<NotificationResponse<'a>, Fault> {
-        let read: sys::pgmsg_notification = read!(pgmsg_read_notification([body]))?;
+        let notification = NotificationRef::read(checked(body)?)?;
         Ok(NotificationResponse {
-            process_id: read.process_id,
-            channel: ByteStr(part(body, read.channel)?),
-            payload: ByteStr(part(body, read.payload)?),
+            process_id: notification.process_id,
+            channel: ByteStr(notification.channel),
+            payload: ByteStr(notification.payload),
         })
     }
 
@@ -84,7 +89,8 @@ impl<'a> NotificationResponse<'a> {
     ///
     /// Refused with [`TextHoldsNul`](Refusal::TextHoldsNul) where a text holds a NUL.
     pub fn write<B: Buffer>(&self, out: &mut B) -> Result<(), Refusal> {
-        put!(out, pgmsg_put_notification(self.process_id, [self.channel], [self.payload]))
+        let (process_id, channel, payload) = (self.process_id, self.channel.0, self.payload.0);
+        put_answer(&NotificationText { process_id, channel, payload }, out)
     }
 }
 
@@ -110,18 +116,15 @@ pub struct ParameterStatus<'a> {
 impl<'a> ParameterStatus<'a> {
     /// Reads the body of a ParameterStatus.
     pub fn read(body: &'a [u8]) -> Result<ParameterStatus<'a>, Fault> {
-        let read: sys::pgmsg_parameter_status = read!(pgmsg_read_parameter_status([body]))?;
-        Ok(ParameterStatus {
-            name: ByteStr(part(body, read.name)?),
-            value: ByteStr(part(body, read.value)?),
-        })
+        let RawParameterStatus { name, value } = RawParameterStatus::read(checked(body)?)?;
+        Ok(ParameterStatus { name: ByteStr(name), value: ByteStr(value) })
     }
 
     /// Appends the message.
     ///
     /// Refused with [`TextHoldsNul`](Refusal::TextHoldsNul) where one of them holds a NUL.
     pub fn write<B: Buffer>(&self, out: &mut B) -> Result<(), Refusal> {
-        put!(out, pgmsg_put_parameter_status([self.name], [self.value]))
+        put_answer(&ParameterStatusText { name: &self.name, value: &self.value }, out)
     }
 }
 
@@ -132,9 +135,11 @@ impl<'a> ParameterStatus<'a> {
 ///
 /// assert_eq!(TransactionStatus::read(b"T")?, TransactionStatus::InTransaction);
 /// assert_eq!(TransactionStatus::Failed.letter(), b'E');
+/// assert_eq!(TransactionStatus::try_from(b'E')?.to_string(), "in a failed transaction");
 /// # Ok::<(), pgmsg::Fault>(())
 /// ```
 #[derive(Clone, Copy, Debug, PartialEq, Eq, Hash)]
+#[cfg_attr(feature = "serde", derive(serde::Serialize, serde::Deserialize))]
 #[non_exhaustive]
 pub enum TransactionStatus {
     /// No transaction is open.
@@ -159,13 +164,37 @@ impl TransactionStatus {
     /// Reads the body of a ReadyForQuery.
     #[inline]
     pub fn read(body: &[u8]) -> Result<TransactionStatus, Fault> {
-        let letter = ask!(pgmsg_read_ready([body]))?;
-        match u8::try_from(letter) {
-            Ok(b'I') => Ok(TransactionStatus::Idle),
-            Ok(b'T') => Ok(TransactionStatus::InTransaction),
-            Ok(b'E') => Ok(TransactionStatus::Failed),
-            _ => Err(Fault::unexpected(letter)),
-        }
+        let ReadyForQuery { transaction_status } = ReadyForQuery::read(checked(body)?)?;
+        Ok(match transaction_status {
+            received::TransactionStatus::Idle => TransactionStatus::Idle,
+            received::TransactionStatus::Transaction => TransactionStatus::InTransaction,
+            received::TransactionStatus::Error => TransactionStatus::Failed,
+        })
+    }
+
+    /// Appends a ReadyForQuery.
+    #[inline]
+    pub(super) fn write<B: Buffer>(&self, out: &mut B) -> Result<(), Refusal> {
+        put_sound(b'Z', Byte(self.letter()), Ok(()), out)
+    }
+}
+
+/// By its letter.
+impl TryFrom<u8> for TransactionStatus {
+    type Error = Fault;
+
+    fn try_from(letter: u8) -> Result<TransactionStatus, Fault> {
+        TransactionStatus::read(&[letter])
+    }
+}
+
+impl fmt::Display for TransactionStatus {
+    fn fmt(&self, f: &mut fmt::Formatter<'_>) -> fmt::Result {
+        f.pad(match self {
+            TransactionStatus::Idle => "idle",
+            TransactionStatus::InTransaction => "in a transaction",
+            TransactionStatus::Failed => "in a failed transaction",
+        })
     }
 }
 
@@ -203,14 +232,11 @@ impl Default for NegotiateProtocolVersion<'_> {
 impl<'a> NegotiateProtocolVersion<'a> {
     /// Reads the body of a NegotiateProtocolVersion, with or without the major version before the minor one.
     pub fn read(body: &'a [u8]) -> Result<NegotiateProtocolVersion<'a>, Fault> {
-        let mut read = sys::pgmsg_negotiation::default();
-        let places =
-            items(|room| ask!(pgmsg_read_negotiate_version([body], &mut read, mut [room])))?;
-        let options = places.iter().map(|&place| part(body, place).map(ByteStr));
+        let version = NegotiateProtocolVersionRef::read(checked(body)?)?;
         Ok(NegotiateProtocolVersion {
-            major: read.major,
-            minor: read.minor,
-            options: options.collect::<Result<_, _>>()?,
+            major: version.major,
+            minor: version.minor,
+            options: List::of(version.options.len(), version.options.map(ByteStr))?,
         })
     }
 
@@ -218,18 +244,9 @@ impl<'a> NegotiateProtocolVersion<'a> {
     ///
     /// Refused with [`TextHoldsNul`](Refusal::TextHoldsNul) where a name holds a NUL.
     pub fn write<B: Buffer>(&self, out: &mut B) -> Result<(), Refusal> {
-        let (options, mut made) = (texts_of(&self.options), Vec::new());
-        put!(&mut made, pgmsg_put_negotiate_version(self.minor, [options]))?;
-        // The library writes 3.
-        let mut body = made.split_off(5);
-        body.splice(..2, self.major.to_be_bytes());
-        put!(out, pgmsg_put_frame(b'v', [body]))
+        let text = NegotiateProtocolVersionText { minor: self.minor, options: &self.options[..] };
+        // The core's own version is 3.
+        let Then(Then(_, minor), options) = text.parts();
+        put_sound(text.tag(), Then(Then(Number16(self.major), minor), options), Ok(()), out)
     }
-}
-
-/// Texts as the library takes them. It points to them.
-pub(super) fn texts_of(texts: &[ByteStr<'_>]) -> Vec<sys::pgmsg_bytes> {
-    let texts =
-        texts.iter().map(|text| sys::pgmsg_bytes { bytes: text.as_ptr(), bytes_len: text.len() });
-    texts.collect()
 }

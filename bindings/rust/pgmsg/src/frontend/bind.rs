@@ -1,16 +1,18 @@
 //! Values of parameters, and those of a function's arguments.
 
-use super::lists::formats;
-use crate::answer::part;
-use crate::buffer::Buffer;
+use crate::body::checked;
+use crate::buffer::{put_sound, Buffer};
 use crate::byte_str::ByteStr;
-use crate::calls::{ask, put};
 use crate::error::{Fault, Refusal};
 use crate::list::List;
-use crate::row::read_values;
-use crate::sys;
 use crate::value::{Format, Value};
-use core::slice;
+use crate::Oid;
+use pgmsg_core::pg_base::io::part::{Number16, Number32, Then, ThenFirst};
+use pgmsg_core::pg_base::io::Ended;
+use pgmsg_core::pg_send::message::counted::{Codes, ParamFormats, ResultFormats};
+use pgmsg_core::pg_send::message::round_trip::check_name;
+use pgmsg_core::pg_send::message::values::Each;
+use pgmsg_core::pg_server::frontend::{BindRef, FormatCodes, FunctionCallRef, Values};
 
 /// A portal that is made of a prepared statement and the values of its parameters.
 ///
@@ -50,17 +52,13 @@ pub struct Bind<'a> {
 impl<'a> Bind<'a> {
     /// Reads the body of a Bind.
     pub fn read(body: &'a [u8]) -> Result<Bind<'a>, Fault> {
-        let mut read = sys::pgmsg_bind::default();
-        let values = read_values(body, |room| {
-            // A `Cell` is one of the library.
-            ask!(pgmsg_read_bind([body], room.as_mut_ptr().cast(), room.len(), &mut read))
-        })?;
+        let bind = BindRef::read(checked(body)?)?;
         Ok(Bind {
-            portal: ByteStr(part(body, read.portal)?),
-            statement: ByteStr(part(body, read.statement)?),
-            formats: formats(body, read.formats)?,
-            values,
-            result_formats: formats(body, read.result_formats)?,
+            portal: ByteStr(bind.portal),
+            statement: ByteStr(bind.statement),
+            formats: formats(bind.formats)?,
+            values: values(bind.values)?,
+            result_formats: formats(bind.result_formats)?,
         })
     }
 
@@ -72,16 +70,12 @@ impl<'a> Bind<'a> {
     /// [`TooManyResultFormats`](Refusal::TooManyResultFormats) above 65535 formats.
     #[inline]
     pub fn write<B: Buffer>(&self, out: &mut B) -> Result<(), Refusal> {
-        put!(
-            out,
-            pgmsg_put_bind(
-                [self.portal],
-                [self.statement],
-                [codes(&self.formats)],
-                [Value::list(&self.values)],
-                [codes(&self.result_formats)]
-            )
-        )
+        let sound = check_name(&self.portal).and(check_name(&self.statement));
+        let values = Each(&self.values[..]);
+        let results = Codes(ResultFormats, &self.result_formats[..]);
+        let parameters = Then(Codes(ParamFormats, &self.formats[..]), ThenFirst(values, results));
+        let parts = Then(Ended(self.portal.0), Then(Ended(self.statement.0), parameters));
+        put_sound(b'B', parts, sound, out)
     }
 }
 
@@ -99,7 +93,7 @@ impl<'a> Bind<'a> {
 #[derive(Clone, Debug, Default, PartialEq, Eq)]
 pub struct FunctionCall<'a> {
     /// The object id of the function.
-    pub object_id: u32,
+    pub object_id: Oid,
     /// The formats of the arguments, as those of a [`Bind`].
     pub formats: List<'a, Format>,
     /// The arguments.
@@ -111,30 +105,30 @@ pub struct FunctionCall<'a> {
 impl<'a> FunctionCall<'a> {
     /// Reads the body of a FunctionCall.
     pub fn read(body: &'a [u8]) -> Result<FunctionCall<'a>, Fault> {
-        let mut read = sys::pgmsg_function_call::default();
-        let arguments = read_values(body, |room| {
-            // A `Cell` is one of the library.
-            ask!(pgmsg_read_function_call([body], room.as_mut_ptr().cast(), room.len(), &mut read))
-        })?;
+        let call = FunctionCallRef::read(checked(body)?)?;
         Ok(FunctionCall {
-            object_id: read.function,
-            formats: formats(body, read.formats)?,
-            arguments,
-            result_format: Format(read.result_format as i16),
+            object_id: call.object_id.0,
+            formats: formats(call.formats)?,
+            arguments: values(call.arguments)?,
+            result_format: Format(call.result_format as i16),
         })
     }
 
     /// Appends the message. Refused as [`Bind::write`] is, for its arguments and their formats.
     pub fn write<B: Buffer>(&self, out: &mut B) -> Result<(), Refusal> {
-        let (formats, arguments) = (codes(&self.formats), Value::list(&self.arguments));
-        let result = self.result_format.0 as u16;
-        put!(out, pgmsg_put_function_call(self.object_id, [formats], [arguments], result))
+        let formats = Codes(ParamFormats, &self.formats[..]);
+        let result = Number16(self.result_format.0 as u16);
+        let arguments = Then(Each(&self.arguments[..]), result);
+        put_sound(b'F', Then(Number32(self.object_id), Then(formats, arguments)), Ok(()), out)
     }
 }
 
-/// The formats as the library takes them: each is 16 bits.
-#[inline]
-fn codes(formats: &[Format]) -> &[u16] {
-    // SAFETY: it is the same slice, of numbers of as many bits.
-    unsafe { slice::from_raw_parts(formats.as_ptr().cast(), formats.len()) }
+/// The formats of a body.
+fn formats<'a>(codes: FormatCodes<'_>) -> Result<List<'a, Format>, Refusal> {
+    List::of(codes.len(), codes.map(|code| Format(code as i16)))
+}
+
+/// The values of a body.
+fn values<'a>(values: Values<'a>) -> Result<List<'a, Value<'a>>, Refusal> {
+    List::of(values.len(), values.map(Value::from))
 }

@@ -2,8 +2,7 @@
 
 use crate::byte_str::ByteStr;
 use crate::error::{Fault, Refusal};
-use crate::sys;
-use crate::version;
+use pgmsg_core::pg_base::io::{Cursor, Sink, HEADER, MAX_BODY};
 
 /// The first five bytes of a CopyData message of either side, which `len` bytes of data follow.
 ///
@@ -18,14 +17,13 @@ use crate::version;
 /// # Ok::<(), pgmsg::Refusal>(())
 /// ```
 #[inline]
-pub fn copy_head(len: usize) -> Result<[u8; 5], Refusal> {
-    version::check();
-    let mut head = [0; 5];
-    // SAFETY: `head` is an array of the five bytes that the call writes.
-    match unsafe { sys::pgmsg_put_copy_head(len, head.as_mut_ptr()) } {
-        0 => Ok(head),
-        number => Err(Refusal::from_number(number as isize)),
+pub fn copy_head(len: usize) -> Result<[u8; HEADER], Refusal> {
+    if len > MAX_BODY {
+        return Err(Refusal::MessageTooLong);
     }
+    let mut head = [0; HEADER];
+    Cursor::new(&mut head).put_head(b'd', len);
+    Ok(head)
 }
 
 /// All of the body is data.

@@ -1,18 +1,17 @@
 //! The first message of a connection, which has no tag.
 
 use super::Message;
-use crate::answer::part;
-use crate::buffer::Buffer;
+use crate::body::checked;
+use crate::buffer::{put_text, Buffer};
 use crate::byte_str::{ByteStr, Secret};
-use crate::calls::{list, put, read};
 use crate::error::{Fault, Refusal};
 use crate::list::List;
-use crate::sys;
-use alloc::format;
-use alloc::vec::Vec;
-
-/// The greatest length of a message without a tag that PostgreSQL's own servers take.
-pub const MAX_FIRST_LENGTH: usize = sys::PGMSG_MAX_FIRST_LENGTH as usize;
+use pgmsg_core::pg_base::io::part::{Byte, Number32, Then};
+pub use pgmsg_core::pg_frames::frontend::MAX_FIRST_LENGTH;
+use pgmsg_core::pg_send::message::settings::{check_settings, AsSetting};
+use pgmsg_core::pg_send::message::untagged::{untagged_len, Untagged};
+use pgmsg_core::pg_send::message::{self as sent, settings, PROTOCOL_VERSION};
+use pgmsg_core::pg_server::frontend::{FirstMessageRef, FrontendFault};
 
 /// A session that is opened: StartupMessage.
 #[derive(Clone, Debug, Default, PartialEq, Eq)]
@@ -30,6 +29,16 @@ pub struct Setting<'a> {
     pub name: ByteStr<'a>,
     /// Its value.
     pub value: ByteStr<'a>,
+}
+
+impl AsSetting for Setting<'_> {
+    fn name(&self) -> &[u8] {
+        &self.name
+    }
+
+    fn value(&self) -> &[u8] {
+        &self.value
+    }
 }
 
 /// The settings of a session, in the order of the message.
@@ -67,15 +76,11 @@ impl<'a> Startup<'a> {
     /// server would read the rest of it as another setting, and where a name is empty, since the settings
     /// would end there.
     pub fn write<B: Buffer>(&self, out: &mut B) -> Result<(), Refusal> {
-        // As the library takes them, which points to the texts.
-        let settings = self.settings.iter().map(|setting| sys::pgmsg_setting {
-            name: setting.name.as_ptr(),
-            name_len: setting.name.len(),
-            value: setting.value.as_ptr(),
-            value_len: setting.value.len(),
-        });
-        let settings: Vec<_> = settings.collect();
-        put!(out, pgmsg_put_startup(self.minor, [settings]))
+        let version = Number32(PROTOCOL_VERSION + u32::from(self.minor));
+        let parts = Then(version, Then(settings::Settings(&self.settings[..]), Byte(0)));
+        let len = untagged_len(&parts)?;
+        check_settings(&self.settings)?;
+        put_text(&Untagged { parts, len }, len, out)
     }
 }
 
@@ -94,38 +99,37 @@ impl CancelRequest<'_> {
     /// Refused with [`BadKeyLength`](Refusal::BadKeyLength) where the key has fewer than 4 bytes, or more
     /// than 256.
     pub fn write<B: Buffer>(&self, out: &mut B) -> Result<(), Refusal> {
-        put!(out, pgmsg_put_cancel_request(self.process_id, [self.secret_key.0]))
+        let (process_id, secret_key) = (self.process_id, self.secret_key.0);
+        let cancel = sent::CancelRequest { process_id, secret_key };
+        put_text(&cancel, cancel.checked_len()?, out)
     }
+}
+
+/// Appends an SSLRequest.
+pub(super) fn put_ssl_request<B: Buffer>(out: &mut B) -> Result<(), Refusal> {
+    put_text(&sent::SslRequest, sent::CODE_LENGTH, out)
+}
+
+/// Appends a GSSENCRequest.
+pub(super) fn put_gss_enc_request<B: Buffer>(out: &mut B) -> Result<(), Refusal> {
+    put_text(&sent::GssEncRequest, sent::CODE_LENGTH, out)
 }
 
 /// Reads the body of a message without a tag.
 pub(super) fn read_first(tag: Option<u8>, body: &[u8]) -> Result<Message<'_>, Fault> {
     if let Some(tag) = tag {
-        return Err(Fault::unknown(format!("unknown message type: {tag}")));
+        return Err(FrontendFault::UnknownTag(tag).into());
     }
-    let read: sys::pgmsg_first = read!(pgmsg_read_first([body]))?;
-    match read.kind {
-        sys::PGMSG_FIRST_STARTUP => {
-            Ok(Message::Startup(Startup { minor: read.minor, settings: read_settings(body)? }))
+    Ok(match FirstMessageRef::read(checked(body)?)? {
+        FirstMessageRef::Startup { minor, settings } => {
+            let setting = |(name, value)| Setting { name: ByteStr(name), value: ByteStr(value) };
+            Message::Startup(Startup { minor, settings: settings.map(setting).collect() })
         }
-        sys::PGMSG_FIRST_CANCEL_REQUEST => Ok(Message::CancelRequest(CancelRequest {
-            process_id: read.process_id,
-            secret_key: Secret(part(body, read.secret_key)?),
-        })),
-        sys::PGMSG_FIRST_SSL_REQUEST => Ok(Message::SslRequest),
-        sys::PGMSG_FIRST_GSS_ENC_REQUEST => Ok(Message::GssEncRequest),
-        _ => Err(Fault::unexpected(read.kind as usize)),
-    }
-}
-
-/// The settings in the body of a Startup.
-fn read_settings(body: &[u8]) -> Result<Settings<'_>, Fault> {
-    let settings = list!(pgmsg_read_settings([body]))?;
-    let settings = settings.iter().map(|setting: &sys::pgmsg_parameter_status| {
-        Ok(Setting {
-            name: ByteStr(part(body, setting.name)?),
-            value: ByteStr(part(body, setting.value)?),
-        })
-    });
-    settings.collect()
+        FirstMessageRef::CancelRequest(cancel) => Message::CancelRequest(CancelRequest {
+            process_id: cancel.process_id,
+            secret_key: Secret(cancel.secret_key),
+        }),
+        FirstMessageRef::SslRequest => Message::SslRequest,
+        FirstMessageRef::GssEncRequest => Message::GssEncRequest,
+    })
 }

@@ -1,14 +1,14 @@
 //! The answers to a request for authentication.
 
 use super::read_text;
-use crate::answer::part;
-use crate::buffer::Buffer;
+use crate::body::checked;
+use crate::buffer::{put_message, put_sound, Buffer};
 use crate::byte_str::{ByteStr, Secret};
-use crate::calls::{put, read};
 use crate::error::{Fault, Refusal};
-use crate::row::Cell;
-use crate::sys;
 use core::fmt;
+use pgmsg_core::pg_base::io::part::Slice;
+use pgmsg_core::pg_send::message as sent;
+use pgmsg_core::pg_server::frontend::SaslInitialRef;
 
 /// The body of an answer to a request for authentication. What it is, the request says: all of it is data
 /// where it is a SASLResponse or a GSSResponse.
@@ -33,7 +33,7 @@ impl<'a> Password<'a> {
 
     /// Appends a message of this body.
     pub fn write<B: Buffer>(&self, out: &mut B) -> Result<(), Refusal> {
-        put!(out, pgmsg_put_frame(b'p', [self.0]))
+        put_sound(b'p', Slice(self.0), Ok(()), out)
     }
 
     /// The password of a PasswordMessage, in clear or its digest.
@@ -70,7 +70,7 @@ impl PasswordMessage<'_> {
     ///
     /// Refused with [`TextHoldsNul`](Refusal::TextHoldsNul) where the password holds a NUL.
     pub fn write<B: Buffer>(&self, out: &mut B) -> Result<(), Refusal> {
-        put!(out, pgmsg_put_password([self.0 .0]))
+        put_message(&sent::Password::Bytes(self.0 .0), out)
     }
 }
 
@@ -89,8 +89,7 @@ pub struct Md5Password(pub [u8; 16]);
 impl Md5Password {
     /// Appends the message.
     pub fn write<B: Buffer>(&self, out: &mut B) -> Result<(), Refusal> {
-        // The call takes sixteen bytes.
-        put!(out, pgmsg_put_md5_password(self.0.as_ptr()))
+        put_message(&sent::Password::Md5 { digest: self.0 }, out)
     }
 }
 
@@ -117,19 +116,16 @@ pub struct SaslInitialResponse<'a> {
 impl<'a> SaslInitialResponse<'a> {
     /// Reads the body of a SASLInitialResponse.
     pub fn read(body: &'a [u8]) -> Result<SaslInitialResponse<'a>, Fault> {
-        let read: sys::pgmsg_sasl_initial = read!(pgmsg_read_sasl_initial([body]))?;
-        Ok(SaslInitialResponse {
-            mechanism: ByteStr(part(body, read.mechanism)?),
-            response: Cell::new(read.response).value(body).map(Secret),
-        })
+        let initial = SaslInitialRef::read(checked(body)?)?;
+        let (mechanism, response) = (ByteStr(initial.mechanism), initial.response.map(Secret));
+        Ok(SaslInitialResponse { mechanism, response })
     }
 
     /// Appends the message.
     ///
     /// Refused with [`TextHoldsNul`](Refusal::TextHoldsNul) where the name holds a NUL.
     pub fn write<B: Buffer>(&self, out: &mut B) -> Result<(), Refusal> {
-        let response = self.response.unwrap_or_default().0;
-        let has_response = self.response.is_some();
-        put!(out, pgmsg_put_sasl_initial([self.mechanism], has_response, [response]))
+        let response = self.response.map(|response| response.0);
+        put_message(&sent::SaslInitial { mechanism: &self.mechanism, response }, out)
     }
 }

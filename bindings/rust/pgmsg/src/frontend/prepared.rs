@@ -1,14 +1,14 @@
 //! What prepares, describes, runs and closes statements and portals.
 
-use super::lists::types;
-use crate::answer::part;
-use crate::buffer::Buffer;
+use crate::body::checked;
+use crate::buffer::{put_message, Buffer};
 use crate::byte_str::ByteStr;
-use crate::calls::{put, read};
 use crate::error::{Fault, Refusal};
 use crate::list::List;
-use crate::sys;
+use crate::Oid;
 use core::num::NonZeroU32;
+use pgmsg_core::pg_send::message::{RawExecute, RawParse, RawTargetOf};
+use pgmsg_core::pg_server::frontend::{self as sent, ExecuteRef, ParseRef, TargetRef};
 
 /// A statement that is prepared.
 ///
@@ -33,17 +33,17 @@ pub struct Parse<'a> {
     pub query: ByteStr<'a>,
     /// The object ids of the types of the parameters, from the first one on. The server infers those that
     /// are 0 or missing.
-    pub types: List<'a, u32>,
+    pub types: List<'a, Oid>,
 }
 
 impl<'a> Parse<'a> {
     /// Reads the body of a Parse.
     pub fn read(body: &'a [u8]) -> Result<Parse<'a>, Fault> {
-        let read: sys::pgmsg_parse = read!(pgmsg_read_parse([body]))?;
+        let parse = ParseRef::read(checked(body)?)?;
         Ok(Parse {
-            statement: ByteStr(part(body, read.statement)?),
-            query: ByteStr(part(body, read.query)?),
-            types: types(body, read.types)?,
+            statement: ByteStr(parse.statement),
+            query: ByteStr(parse.query),
+            types: List::of(parse.types.len(), parse.types.map(|oid| oid.0))?,
         })
     }
 
@@ -53,7 +53,8 @@ impl<'a> Parse<'a> {
     /// [`TooManyParamTypes`](Refusal::TooManyParamTypes) above 65535 types.
     #[inline]
     pub fn write<B: Buffer>(&self, out: &mut B) -> Result<(), Refusal> {
-        put!(out, pgmsg_put_parse([self.statement], [self.query], [self.types]))
+        let (statement, query) = (self.statement.0, self.query.0);
+        put_message(&RawParse { statement, query, param_types: &self.types[..] }, out)
     }
 }
 
@@ -79,13 +80,11 @@ pub enum Target<'a> {
 impl<'a> Target<'a> {
     /// Reads the body of a Describe or a Close.
     pub fn read(body: &'a [u8]) -> Result<Target<'a>, Fault> {
-        let read: sys::pgmsg_target = read!(pgmsg_read_target([body]))?;
-        let name = ByteStr(part(body, read.name)?);
-        match read.letter {
-            b'S' => Ok(Target::Statement(name)),
-            b'P' => Ok(Target::Portal(name)),
-            letter => Err(Fault::unexpected(letter.into())),
-        }
+        let TargetRef { target, name } = TargetRef::read(checked(body)?)?;
+        Ok(match target {
+            sent::Target::Statement => Target::Statement(ByteStr(name)),
+            sent::Target::Portal => Target::Portal(ByteStr(name)),
+        })
     }
 
     /// The name of either.
@@ -95,13 +94,14 @@ impl<'a> Target<'a> {
             Target::Statement(name) | Target::Portal(name) => name,
         }
     }
+}
 
-    /// The letter of its kind.
-    #[inline]
-    pub(super) fn kind(self) -> u8 {
-        match self {
-            Target::Statement(_) => b'S',
-            Target::Portal(_) => b'P',
+/// As it is written.
+impl<'a, const CLOSES: bool> From<Target<'a>> for RawTargetOf<'a, CLOSES> {
+    fn from(target: Target<'a>) -> Self {
+        match target {
+            Target::Statement(name) => RawTargetOf::Statement(name.0),
+            Target::Portal(name) => RawTargetOf::Portal(name.0),
         }
     }
 }
@@ -134,8 +134,8 @@ impl<'a> Execute<'a> {
 
     /// Reads the body of an Execute.
     pub fn read(body: &'a [u8]) -> Result<Execute<'a>, Fault> {
-        let read: sys::pgmsg_execute = read!(pgmsg_read_execute([body]))?;
-        Ok(Execute { portal: ByteStr(part(body, read.portal)?), max_rows: read.max_rows })
+        let ExecuteRef { portal, limit } = ExecuteRef::read(checked(body)?)?;
+        Ok(Execute { portal: ByteStr(portal), max_rows: limit })
     }
 
     /// Appends the message.
@@ -143,6 +143,6 @@ impl<'a> Execute<'a> {
     /// Refused with [`TextHoldsNul`](Refusal::TextHoldsNul) where the name holds a NUL.
     #[inline]
     pub fn write<B: Buffer>(&self, out: &mut B) -> Result<(), Refusal> {
-        put!(out, pgmsg_put_execute([self.portal], self.max_rows))
+        put_message(&RawExecute { portal: &self.portal, limit: self.max_rows }, out)
     }
 }

@@ -1,9 +1,10 @@
 //! What goes out in a message's place.
 
-use crate::calls::ask;
-use crate::error::{Fault, Refusal};
+use crate::error::Fault;
 use crate::frame::Frame;
 use alloc::vec::Vec;
+use pgmsg_core::pg_frames::frontend::Expects;
+use pgmsg_core::pg_frames::relay::{self, end_of_run, RelayError};
 
 /// What its user answers to a whole message.
 ///
@@ -26,7 +27,7 @@ pub enum Answer {
 impl Answer {
     /// The bytes that go out in the place of a message, which are these two one after the other.
     ///
-    /// Refused with [`NotFrames`](Refusal::NotFrames) where what goes out is no run of whole messages
+    /// Refused with [`NotFrames`](crate::Refusal::NotFrames) where what goes out is no run of whole messages
     /// after which the stream goes on as it does after the message: so a client's first message can't be
     /// left out where a message with a tag comes next.
     ///
@@ -45,30 +46,32 @@ impl Answer {
     /// # Ok::<(), pgmsg::Fault>(())
     /// ```
     pub fn place<'a>(&'a self, frame: &Frame<'a>) -> Result<[&'a [u8]; 2], Fault> {
-        let before = frame.tag.is_none();
-        let after = check_frames(frame.bytes, before)?;
-        Ok(match self {
-            Answer::Keep => [frame.bytes, &[]],
-            Answer::Omit => [led(before, &[], after)?, &[]],
-            Answer::Replace(added) => [led(before, added, after)?, &[]],
-            Answer::AddBefore(added) => [led(before, added, before)?, frame.bytes],
-            Answer::AddAfter(added) => [frame.bytes, led(after, added, after)?],
-        })
+        let (answer, added): (_, &[u8]) = match self {
+            Answer::Keep => (relay::Answer::Keep, &[]),
+            Answer::Omit => (relay::Answer::Omit, &[]),
+            Answer::Replace(added) => (relay::Answer::Replace, added),
+            Answer::AddBefore(added) => (relay::Answer::AddBefore, added),
+            Answer::AddAfter(added) => (relay::Answer::AddAfter, added),
+        };
+        let expects = expects_of(frame.tag.is_none());
+        let next = end_of_run(expects, frame.bytes).ok_or(RelayError::NotFrames)?;
+        let (first, second) = answer.place(expects, frame.bytes, next, added)?;
+        Ok([first, second])
     }
 }
 
-/// The bytes, where they lead from what is expected before them to what is expected after them.
-fn led(before: bool, bytes: &[u8], after: bool) -> Result<&[u8], Fault> {
-    match check_frames(bytes, before)? == after {
-        true => Ok(bytes),
-        false => Err(Refusal::NotFrames.into()),
+/// Which message comes next.
+fn expects_of(is_first: bool) -> Expects {
+    match is_first {
+        true => Expects::First,
+        false => Expects::Tagged,
     }
 }
 
 /// Whether a message without a tag comes next after some bytes, which are whole messages one after the
 /// other, where the first of them has no tag if `is_first`.
 ///
-/// Other bytes are refused with [`NotFrames`](Refusal::NotFrames).
+/// Other bytes are refused with [`NotFrames`](crate::Refusal::NotFrames).
 ///
 /// ```
 /// # use pgmsg::relay::check_frames;
@@ -77,7 +80,6 @@ fn led(before: bool, bytes: &[u8], after: bool) -> Result<&[u8], Fault> {
 /// assert!(check_frames(b"S\0\0\0\x04H\0", false).is_err());
 /// ```
 pub fn check_frames(bytes: &[u8], is_first: bool) -> Result<bool, Fault> {
-    let mut expects_first = is_first;
-    ask!(pgmsg_check_frames([bytes], &mut expects_first))?;
-    Ok(expects_first)
+    let after = end_of_run(expects_of(is_first), bytes).ok_or(RelayError::NotFrames)?;
+    Ok(after == Expects::First)
 }

@@ -3,6 +3,7 @@
 use crate::byte_str::ByteStr;
 use alloc::vec::Vec;
 use core::fmt;
+use pgmsg_core::pg_frames::relay::Wants;
 
 /// Which messages a relay gives whole, by their tags. All others go out in parts as their bytes come,
 /// whatever their length.
@@ -15,26 +16,26 @@ use core::fmt;
 /// assert!(Wanted::ALL.without(b"d").wants(b'Q'));
 /// ```
 #[derive(Clone, Copy, PartialEq, Eq)]
-pub struct Wanted([u8; 256]);
+pub struct Wanted([bool; 256]);
 
 impl Wanted {
     /// Every message.
-    pub const ALL: Wanted = Wanted([1; 256]);
+    pub const ALL: Wanted = Wanted([true; 256]);
 
     /// No message with a tag.
-    pub const NONE: Wanted = Wanted([0; 256]);
+    pub const NONE: Wanted = Wanted([false; 256]);
 
     /// Messages with these tags.
     pub const fn tags(tags: &[u8]) -> Wanted {
-        Wanted::NONE.set(tags, 1)
+        Wanted::NONE.set(tags, true)
     }
 
     /// All these but messages with those tags.
     pub const fn without(self, tags: &[u8]) -> Wanted {
-        self.set(tags, 0)
+        self.set(tags, false)
     }
 
-    const fn set(self, tags: &[u8], flag: u8) -> Wanted {
+    const fn set(self, tags: &[u8], flag: bool) -> Wanted {
         let mut flags = self.0;
         let mut at = 0;
         while at < tags.len() {
@@ -47,13 +48,14 @@ impl Wanted {
     /// Whether messages with a tag are wanted whole.
     #[inline]
     pub const fn wants(&self, tag: u8) -> bool {
-        self.0[tag as usize] != 0
+        self.0[tag as usize]
     }
+}
 
-    /// A byte for each tag, which is 0 where it is not wanted.
+impl Wants for Wanted {
     #[inline]
-    pub(super) fn flags(&self) -> &[u8; 256] {
-        &self.0
+    fn wants(&self, tag: u8, _length: usize) -> bool {
+        Wanted::wants(self, tag)
     }
 }
 

@@ -7,7 +7,7 @@
 mod change;
 mod items;
 mod prepared;
-mod text;
+mod sent;
 mod transaction;
 
 pub use change::{Column, Datum, Delete, Insert, Old, Relation, Truncate, TypeName, Update};
@@ -15,13 +15,10 @@ pub use items::{Items, Iter, Listed};
 pub use prepared::{BeginPrepare, Prepared, RollbackPrepared};
 pub use transaction::{Begin, Commit, Message, Origin, StreamAbort, StreamCommit, StreamStart};
 
-use crate::answer::part;
-use crate::buffer::Buffer;
-use crate::byte_str::ByteStr;
-use crate::calls::{ask, put};
+use crate::buffer::{put_text, Buffer};
 use crate::error::{Fault, Refusal};
-use crate::sys;
-use items::FEW;
+use pgmsg_core::pg_replication::logical as core_logical;
+use sent::Lists;
 
 /// The values of the columns of a row, in order.
 pub type Tuple<'a> = Items<'a, Datum<'a>>;
@@ -119,9 +116,9 @@ impl<'a> LogicalMessage<'a> {
     /// [`TextHoldsNul`](Refusal::TextHoldsNul) where a name holds a NUL, and with
     /// [`MessageTooLong`](Refusal::MessageTooLong) where the message is too long.
     pub fn write<B: Buffer>(&self, out: &mut B) -> Result<(), Refusal> {
-        let text = text::Text::of(self);
-        // What it points to is borrowed as long as `self` is, and its lists are there as long as `text` is.
-        put!(out, pgmsg_put_logical(&text.parts))
+        let mut lists = Lists::default();
+        let message = lists.sent(self)?;
+        put_text(&message, message.checked_len()?, out)
     }
 
     /// The byte that the message begins with.
@@ -148,32 +145,33 @@ impl<'a> LogicalMessage<'a> {
             LogicalMessage::StreamPrepare(_) => b'p',
         }
     }
+}
 
-    /// A message by what the library says of it.
+impl<'a> From<core_logical::LogicalMessage<'a>> for LogicalMessage<'a> {
     #[inline]
-    fn of(content: &'a [u8], it: &sys::pgmsg_logical) -> Result<LogicalMessage<'a>, Fault> {
-        Ok(match it.letter {
-            b'B' => LogicalMessage::Begin(Begin::of(it)),
-            b'M' => LogicalMessage::Message(Message::of(content, it)?),
-            b'C' => LogicalMessage::Commit(Commit::of(it)),
-            b'O' => LogicalMessage::Origin(Origin::of(content, it)?),
-            b'R' => LogicalMessage::Relation(Relation::of(content, it)?),
-            b'Y' => LogicalMessage::TypeName(TypeName::of(content, it)?),
-            b'I' => LogicalMessage::Insert(Insert::of(content, it)),
-            b'U' => LogicalMessage::Update(Update::of(content, it)),
-            b'D' => LogicalMessage::Delete(Delete::of(content, it)?),
-            b'T' => LogicalMessage::Truncate(Truncate::of(content, it)),
-            b'S' => LogicalMessage::StreamStart(StreamStart::of(it)),
-            b'E' => LogicalMessage::StreamStop,
-            b'c' => LogicalMessage::StreamCommit(StreamCommit::of(it)),
-            b'A' => LogicalMessage::StreamAbort(StreamAbort::of(it)),
-            b'b' => LogicalMessage::BeginPrepare(BeginPrepare::of(content, it)?),
-            b'P' => LogicalMessage::Prepare(Prepared::of(content, it)?),
-            b'K' => LogicalMessage::CommitPrepared(Prepared::of(content, it)?),
-            b'r' => LogicalMessage::RollbackPrepared(RollbackPrepared::of(content, it)?),
-            b'p' => LogicalMessage::StreamPrepare(Prepared::of(content, it)?),
-            letter => return Err(Fault::unexpected(letter.into())),
-        })
+    fn from(message: core_logical::LogicalMessage<'a>) -> LogicalMessage<'a> {
+        use core_logical::LogicalMessage as Read;
+        match message {
+            Read::Begin(it) => LogicalMessage::Begin(it.into()),
+            Read::Message(it) => LogicalMessage::Message(it.into()),
+            Read::Commit(it) => LogicalMessage::Commit(it.into()),
+            Read::Origin(it) => LogicalMessage::Origin(it.into()),
+            Read::Relation(it) => LogicalMessage::Relation(it.into()),
+            Read::TypeName(it) => LogicalMessage::TypeName(it.into()),
+            Read::Insert(it) => LogicalMessage::Insert(it.into()),
+            Read::Update(it) => LogicalMessage::Update(it.into()),
+            Read::Delete(it) => LogicalMessage::Delete(it.into()),
+            Read::Truncate(it) => LogicalMessage::Truncate(it.into()),
+            Read::StreamStart(it) => LogicalMessage::StreamStart(it.into()),
+            Read::StreamStop(_) => LogicalMessage::StreamStop,
+            Read::StreamCommit(it) => LogicalMessage::StreamCommit(it.into()),
+            Read::StreamAbort(it) => LogicalMessage::StreamAbort(it.into()),
+            Read::BeginPrepare(it) => LogicalMessage::BeginPrepare(it.into()),
+            Read::Prepare(it) => LogicalMessage::Prepare(it.into()),
+            Read::CommitPrepared(it) => LogicalMessage::CommitPrepared(it.into()),
+            Read::RollbackPrepared(it) => LogicalMessage::RollbackPrepared(it.into()),
+            Read::StreamPrepare(it) => LogicalMessage::StreamPrepare(it.into()),
+        }
     }
 }
 
@@ -205,22 +203,9 @@ impl LogicalStream {
     /// Reads the next message as [`LogicalMessage::read`] does. After a fault the reader is as it was.
     #[inline]
     pub fn read<'a>(&mut self, content: &'a [u8]) -> Result<LogicalMessage<'a>, Fault> {
-        // A row is read quickest where there is room for its values, which are found again as they are asked for.
-        let mut values = [sys::pgmsg_datum::default(); FEW];
-        let mut read = sys::pgmsg_logical::default();
-        ask!(pgmsg_read_logical([content], &mut self.streamed, mut [values], &mut read))?;
-        LogicalMessage::of(content, &read)
+        let mut stream = core_logical::LogicalStream { streamed: self.streamed };
+        let message = stream.read(content)?;
+        self.streamed = stream.streamed;
+        Ok(message.into())
     }
-}
-
-/// The text at a place of a message.
-#[inline]
-fn text(content: &[u8], place: sys::pgmsg_span) -> Result<ByteStr<'_>, Fault> {
-    part(content, place).map(ByteStr)
-}
-
-/// The number of the transaction, where a message has it.
-#[inline]
-fn transaction(it: &sys::pgmsg_logical) -> Option<u32> {
-    it.has_transaction.then_some(it.transaction)
 }

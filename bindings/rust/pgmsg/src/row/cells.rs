@@ -1,70 +1,73 @@
 //! The places and the values of cells.
 
-use crate::sys;
 use core::iter::FusedIterator;
-use core::mem::{align_of, size_of};
 use core::ops::Range;
 use core::slice;
+use pgmsg_core::pg_base::ProtocolFault;
+use pgmsg_core::pg_format::items::{Item, Keeper, QuickItem};
+use pgmsg_core::pg_receive::message::cell_at;
+
+/// The bytes of a cell's length.
+pub(super) const LENGTH: usize = 4;
 
 /// The place of a cell in the body of its row. The default is an empty value at the front.
 #[derive(Clone, Copy, Debug, Default)]
-#[repr(transparent)]
-pub struct Cell(sys::pgmsg_cell);
-
-// The library writes a place and a length, of 32 bits each.
-const _: () = assert!(size_of::<Cell>() == 8 && align_of::<Cell>() == 4);
+pub struct Cell {
+    at: u32,
+    /// Below 0 where it is NULL.
+    len: i32,
+}
 
 impl Cell {
-    #[inline]
-    pub(crate) fn new(cell: sys::pgmsg_cell) -> Cell {
-        Cell(cell)
-    }
-
     /// Where the value lies in the body, or `None` where it is NULL.
     #[inline]
     pub fn range(&self) -> Option<Range<usize>> {
-        let length = usize::try_from(self.0.len).ok()?;
-        Some(self.start()..self.start() + length)
+        let (start, length) = (self.at as usize, usize::try_from(self.len).ok()?);
+        Some(start..start + length)
     }
 
     /// The value in the body that the cell was read of, or `None` where it is NULL, or where another
     /// body is too short for it.
     #[inline]
     pub fn value<'b>(&self, body: &'b [u8]) -> Option<&'b [u8]> {
-        let length = usize::try_from(self.0.len).ok()?;
-        // A sum that wraps is before its start.
-        body.get(self.start()..self.start().wrapping_add(length))
-    }
-
-    /// The value in the body that the cell was read of, or `None` where it is NULL. By
-    /// [`value`](Cell::value) a row of 50 cells would take a sixth more instructions.
-    ///
-    /// # Safety
-    ///
-    /// The cell is NULL or lies in the body.
-    #[inline]
-    pub(super) unsafe fn value_in<'b>(&self, body: &'b [u8]) -> Option<&'b [u8]> {
-        let length = usize::try_from(self.0.len).ok()?;
-        // SAFETY: the cell lies in the body.
-        Some(unsafe { body.get_unchecked(self.start()..self.start() + length) })
+        body.get(self.range()?)
     }
 
     /// Whether it is NULL.
     #[inline]
     pub fn is_null(&self) -> bool {
-        self.0.len < 0
+        self.len < 0
     }
+}
 
-    /// The offset of the value in the body, where it has one.
-    #[inline]
-    pub(super) fn start(&self) -> usize {
-        self.0.at as usize
+impl<'a> Item<'a> for Cell {
+    fn item_at(body: &'a [u8], at: usize) -> Result<(Cell, usize), ProtocolFault> {
+        let (value, end) = cell_at(body, at)?;
+        let len = value.map_or(-1, |value| value.len() as i32);
+        Ok((Cell { at: (at + LENGTH) as u32, len }, end))
     }
+}
 
-    /// Whether it is NULL or lies in the body.
-    #[inline]
-    pub(super) fn is_in(&self, body: &[u8]) -> bool {
-        self.is_null() || self.value(body).is_some()
+impl<'a> QuickItem<'a> for Cell {
+    #[inline(always)]
+    fn item_until(body: &'a [u8], at: usize, last: usize) -> Option<(Cell, usize)> {
+        let len = i32::from_be_bytes(*body.get(at..)?.first_chunk()?);
+        let start = at + LENGTH;
+        // A length below 0 is NULL, and takes no bytes.
+        let end = start + len.max(0) as usize;
+        (end <= last).then_some((Cell { at: start as u32, len }, end))
+    }
+}
+
+/// Where the places of a row go, of which those are left out that there is no room for.
+pub(super) struct Places<'r>(pub(super) slice::IterMut<'r, Cell>);
+
+impl Keeper<'_, Cell> for Places<'_> {
+    #[inline(always)]
+    fn keep(&mut self, _at: usize, cell: Cell, _end: usize) {
+        if let Some(place) = self.0.next() {
+            *place = cell;
+        }
     }
 }
 
@@ -72,16 +75,12 @@ impl Cell {
 #[derive(Clone, Debug)]
 pub struct Cells<'b, 'r> {
     body: &'b [u8],
-    /// Each is NULL or lies in the body.
     cells: slice::Iter<'r, Cell>,
 }
 
 impl<'b, 'r> Cells<'b, 'r> {
-    /// # Safety
-    ///
-    /// Each cell is NULL or lies in the body.
     #[inline]
-    pub(super) unsafe fn new(body: &'b [u8], cells: &'r [Cell]) -> Cells<'b, 'r> {
+    pub(super) fn new(body: &'b [u8], cells: &'r [Cell]) -> Cells<'b, 'r> {
         Cells { body, cells: cells.iter() }
     }
 }
@@ -91,9 +90,7 @@ impl<'b> Iterator for Cells<'b, '_> {
 
     #[inline]
     fn next(&mut self) -> Option<Option<&'b [u8]>> {
-        let cell = self.cells.next()?;
-        // SAFETY: as `new` says.
-        Some(unsafe { cell.value_in(self.body) })
+        Some(self.cells.next()?.value(self.body))
     }
 
     #[inline]
@@ -105,9 +102,7 @@ impl<'b> Iterator for Cells<'b, '_> {
 impl DoubleEndedIterator for Cells<'_, '_> {
     #[inline]
     fn next_back(&mut self) -> Option<Self::Item> {
-        let cell = self.cells.next_back()?;
-        // SAFETY: as `new` says.
-        Some(unsafe { cell.value_in(self.body) })
+        Some(self.cells.next_back()?.value(self.body))
     }
 }
 

@@ -1,11 +1,11 @@
-//! Base64 (RFC 4648). The library reads it of what a server sends, and writes none.
+//! Base64 (RFC 4648). The core reads it of what a server sends, and writes none.
 
 use alloc::string::String;
 
 const DIGITS: &[u8; 64] = b"ABCDEFGHIJKLMNOPQRSTUVWXYZabcdefghijklmnopqrstuvwxyz0123456789+/";
 
 pub(super) fn encode(bytes: &[u8]) -> String {
-    let mut text = String::with_capacity((bytes.len() + 2) / 3 * 4);
+    let mut text = String::with_capacity(bytes.len().div_ceil(3) * 4);
     for three in bytes.chunks(3) {
         let byte = |at| u32::from(three.get(at).copied().unwrap_or_default());
         let bits = byte(0) << 16 | byte(1) << 8 | byte(2);

@@ -2,18 +2,19 @@
 
 use super::{base64, covered, is_nonce, is_same, without_proof, xor};
 use super::{Digest, Error, Key, MAX_ITERATIONS, SCRAM_SHA_256, SCRAM_SHA_256_PLUS};
-use crate::answer::{grow, items};
 use crate::backend::Authentication;
 use crate::buffer::Buffer;
-use crate::calls::ask;
 use crate::error::Fault;
 use crate::frontend::{Password, SaslInitialResponse};
-use crate::sys;
 use alloc::format;
 use alloc::string::String;
+use alloc::vec;
 use alloc::vec::Vec;
 use core::fmt;
 use core::marker::PhantomData;
+use pgmsg_core::pg_receive::message::{
+    AuthenticationSaslContinueRef, AuthenticationSaslFinalRef, Base64Bytes,
+};
 
 /// A client that has a password.
 ///
@@ -170,7 +171,8 @@ impl<'a, D: Digest> Client<'a, D> {
         if self.requires_binding && header != HEADERS[2] {
             return Err(Error::NoMechanism);
         }
-        let (iterations, salt, nonce) = read_challenge(challenge)?;
+        let asked = AuthenticationSaslContinueRef::read(challenge).map_err(Fault::from)?;
+        let (iterations, salt, nonce) = (asked.iterations, bytes_of(&asked.salt), asked.nonce);
         let added = nonce.strip_prefix(self.nonce).unwrap_or_default();
         let begins = challenge.starts_with(b"r=") && is_nonce(self.nonce.as_bytes());
         if !begins || !is_nonce(added.as_bytes()) || salt.is_empty() {
@@ -181,7 +183,7 @@ impl<'a, D: Digest> Client<'a, D> {
         }
         let salted = D::salted(self.password, &salt, iterations);
         let binding = self.binding.filter(|_| header == HEADERS[2]).unwrap_or_default();
-        let answer = without_proof(header, binding, &nonce);
+        let answer = without_proof(header, binding, nonce);
         let messages = covered(self.bare().as_bytes(), challenge, answer.as_bytes());
         let key = D::hmac(&salted, b"Client Key");
         let proof = xor(key, &D::hmac(&D::hash(&key), &messages));
@@ -210,23 +212,14 @@ impl<D> fmt::Debug for Client<'_, D> {
     }
 }
 
-/// The iterations, the salt and the nonce of a server's challenge.
-fn read_challenge(data: &[u8]) -> Result<(u32, Vec<u8>, String), Fault> {
-    let body = [&11u32.to_be_bytes(), data].concat();
-    let (mut salt, mut nonce) = (Vec::new(), Vec::new());
-    let mut read = sys::pgmsg_challenge::default();
-    // No part of a body is longer than the body.
-    grow(&mut salt, body.len())?;
-    grow(&mut nonce, body.len())?;
-    ask!(pgmsg_read_challenge([body], &mut read, mut [salt], mut [nonce]))?;
-    salt.truncate(read.salt_len);
-    nonce.truncate(read.nonce_len);
-    let nonce = String::from_utf8(nonce).map_err(|_| Fault::unexpected(read.nonce_len))?;
-    Ok((read.iterations, salt, nonce))
+/// The bytes that stand as base64 in a message.
+fn bytes_of(base64: &Base64Bytes<'_>) -> Vec<u8> {
+    let mut bytes = vec![0; base64.len()];
+    base64.copy_to(&mut bytes);
+    bytes
 }
 
 /// The value `v` of a message, of base64, or nothing where there is none.
 pub(super) fn read_verifier(data: &[u8]) -> Result<Vec<u8>, Fault> {
-    let body = [&12u32.to_be_bytes(), data].concat();
-    items(|room| ask!(pgmsg_read_verifier([body], mut [room])))
+    Ok(bytes_of(&AuthenticationSaslFinalRef::read(data)?.verifier))
 }

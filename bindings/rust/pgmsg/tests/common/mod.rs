@@ -16,14 +16,12 @@ pub fn fault_of<T>(result: Result<T, Fault>) -> (Refusal, usize) {
     }
 }
 
-/// The value of a result, or `None` where it is a fault that the library may report.
+/// The value of a result, or `None` where it is a fault, of which the words and the offset are sound.
 pub fn checked<T>(bytes: &[u8], result: Result<T, Fault>) -> Option<T> {
     let fault = match result {
         Ok(value) => return Some(value),
         Err(fault) => fault,
     };
-    let is_unexpected = matches!(fault.refusal, Refusal::Unexpected(_));
-    assert!(!is_unexpected, "{fault} of {bytes:?}");
     assert!(fault.at <= bytes.len(), "{fault:?} of {bytes:?}");
     assert!(!fault.words.is_empty() && fault.words.is_ascii());
     None

@@ -1,9 +1,75 @@
 //! The changes of tables, and the tables and types that they speak of.
 
-use super::{text, transaction, Columns, Relations, Tuple};
+use super::{Columns, Relations, Tuple};
 use crate::byte_str::ByteStr;
-use crate::error::Fault;
-use crate::sys;
+use crate::replication::mirror::mirrors;
+use alloc::vec::Vec;
+use pgmsg_core::pg_base::ProtocolFault;
+use pgmsg_core::pg_replication::logical::{self as core_logical, DatumText};
+
+mirrors! {
+    core_logical;
+
+    /// A column of a table.
+    pub struct Column<'a> {
+        /// 1 where the column is a part of the key, else 0.
+        pub flags: u8,
+        /// Its name.
+        pub name: ByteStr<'a>,
+        /// The number of its type.
+        pub type_id: u32,
+        /// The type's modifier, whose meaning depends on the type.
+        pub type_modifier: i32,
+    }
+
+    /// The name of a type that isn't built in, before the first table with a column of it.
+    pub struct TypeName<'a> {
+        /// The transaction's number, where it is streamed.
+        pub transaction: Option<u32>,
+        /// The number of the type, by which columns name it.
+        pub type_id: u32,
+        /// The type's schema, empty for `pg_catalog`.
+        pub schema: ByteStr<'a>,
+        /// The type's name.
+        pub name: ByteStr<'a>,
+    }
+}
+
+/// The value of a column.
+#[derive(Clone, Copy, Debug, PartialEq, Eq)]
+pub enum Datum<'a> {
+    /// NULL, or in a key a column that isn't part of it.
+    Null,
+    /// A large value that wasn't changed, and isn't sent.
+    Unchanged,
+    /// The value as text.
+    Text(ByteStr<'a>),
+    /// The value in the binary format of its type.
+    Binary(ByteStr<'a>),
+}
+
+impl<'a> From<core_logical::Datum<'a>> for Datum<'a> {
+    #[inline]
+    fn from(datum: core_logical::Datum<'a>) -> Datum<'a> {
+        match datum {
+            core_logical::Datum::Null => Datum::Null,
+            core_logical::Datum::Unchanged => Datum::Unchanged,
+            core_logical::Datum::Text(value) => Datum::Text(ByteStr(value)),
+            core_logical::Datum::Binary(value) => Datum::Binary(ByteStr(value)),
+        }
+    }
+}
+
+impl<'a> From<Datum<'a>> for core_logical::Datum<'a> {
+    fn from(datum: Datum<'a>) -> Self {
+        match datum {
+            Datum::Null => core_logical::Datum::Null,
+            Datum::Unchanged => core_logical::Datum::Unchanged,
+            Datum::Text(value) => core_logical::Datum::Text(value.0),
+            Datum::Binary(value) => core_logical::Datum::Binary(value.0),
+        }
+    }
+}
 
 /// A table and its columns, before the first change of it, and again where they are others than before.
 #[derive(Clone, Copy, Debug, PartialEq, Eq)]
@@ -22,69 +88,6 @@ pub struct Relation<'a> {
     pub columns: Columns<'a>,
 }
 
-impl<'a> Relation<'a> {
-    pub(super) fn of(content: &'a [u8], it: &sys::pgmsg_logical) -> Result<Relation<'a>, Fault> {
-        Ok(Relation {
-            transaction: transaction(it),
-            relation: it.relation,
-            schema: text(content, it.schema)?,
-            name: text(content, it.name)?,
-            replica_identity: it.replica_identity,
-            columns: Columns::new(content, it.columns),
-        })
-    }
-}
-
-/// A column of a table.
-#[derive(Clone, Copy, Debug, Default, PartialEq, Eq)]
-pub struct Column<'a> {
-    /// 1 where the column is a part of the key, else 0.
-    pub flags: u8,
-    /// Its name.
-    pub name: ByteStr<'a>,
-    /// The number of its type.
-    pub type_id: u32,
-    /// The type's modifier, whose meaning depends on the type.
-    pub type_modifier: i32,
-}
-
-/// The name of a type that isn't built in, before the first table with a column of it.
-#[derive(Clone, Copy, Debug, Default, PartialEq, Eq)]
-pub struct TypeName<'a> {
-    /// The transaction's number, where it is streamed.
-    pub transaction: Option<u32>,
-    /// The number of the type, by which columns name it.
-    pub type_id: u32,
-    /// The type's schema, empty for `pg_catalog`.
-    pub schema: ByteStr<'a>,
-    /// The type's name.
-    pub name: ByteStr<'a>,
-}
-
-impl<'a> TypeName<'a> {
-    pub(super) fn of(content: &'a [u8], it: &sys::pgmsg_logical) -> Result<TypeName<'a>, Fault> {
-        Ok(TypeName {
-            transaction: transaction(it),
-            type_id: it.type_id,
-            schema: text(content, it.schema)?,
-            name: text(content, it.name)?,
-        })
-    }
-}
-
-/// The value of a column.
-#[derive(Clone, Copy, Debug, PartialEq, Eq)]
-pub enum Datum<'a> {
-    /// NULL, or in a key a column that isn't part of it.
-    Null,
-    /// A large value that wasn't changed, and isn't sent.
-    Unchanged,
-    /// The value as text.
-    Text(ByteStr<'a>),
-    /// The value in the binary format of its type.
-    Binary(ByteStr<'a>),
-}
-
 /// What is sent of a row before its change.
 #[derive(Clone, Copy, Debug, PartialEq, Eq)]
 pub enum Old<'a> {
@@ -92,17 +95,6 @@ pub enum Old<'a> {
     Key(Tuple<'a>),
     /// All columns, of a table whose replica identity is FULL.
     Whole(Tuple<'a>),
-}
-
-impl<'a> Old<'a> {
-    fn of(content: &'a [u8], it: &sys::pgmsg_logical) -> Option<Old<'a>> {
-        let row = Tuple::new(content, it.old_row);
-        match it.old_letter {
-            b'K' => Some(Old::Key(row)),
-            b'O' => Some(Old::Whole(row)),
-            _ => None,
-        }
-    }
 }
 
 /// A new row.
@@ -114,13 +106,6 @@ pub struct Insert<'a> {
     pub relation: u32,
     /// The new row.
     pub new: Tuple<'a>,
-}
-
-impl<'a> Insert<'a> {
-    pub(super) fn of(content: &'a [u8], it: &sys::pgmsg_logical) -> Insert<'a> {
-        let new = Tuple::new(content, it.new_row);
-        Insert { transaction: transaction(it), relation: it.relation, new }
-    }
 }
 
 /// A row that is changed.
@@ -136,13 +121,6 @@ pub struct Update<'a> {
     pub new: Tuple<'a>,
 }
 
-impl<'a> Update<'a> {
-    pub(super) fn of(content: &'a [u8], it: &sys::pgmsg_logical) -> Update<'a> {
-        let Insert { transaction, relation, new } = Insert::of(content, it);
-        Update { transaction, relation, old: Old::of(content, it), new }
-    }
-}
-
 /// A row that is deleted.
 #[derive(Clone, Copy, Debug, PartialEq, Eq)]
 pub struct Delete<'a> {
@@ -152,13 +130,6 @@ pub struct Delete<'a> {
     pub relation: u32,
     /// The row, or its key.
     pub old: Old<'a>,
-}
-
-impl<'a> Delete<'a> {
-    pub(super) fn of(content: &'a [u8], it: &sys::pgmsg_logical) -> Result<Delete<'a>, Fault> {
-        let old = Old::of(content, it).ok_or_else(|| Fault::unexpected(it.old_letter.into()))?;
-        Ok(Delete { transaction: transaction(it), relation: it.relation, old })
-    }
 }
 
 /// Tables that are emptied.
@@ -172,9 +143,120 @@ pub struct Truncate<'a> {
     pub relations: Relations<'a>,
 }
 
+impl<'a> From<core_logical::Relation<'a>> for Relation<'a> {
+    fn from(it: core_logical::Relation<'a>) -> Relation<'a> {
+        Relation {
+            transaction: it.transaction,
+            relation: it.relation,
+            schema: ByteStr(it.schema),
+            name: ByteStr(it.name),
+            replica_identity: it.replica_identity,
+            columns: it.columns.into(),
+        }
+    }
+}
+
+impl<'a> From<core_logical::Old<'a>> for Old<'a> {
+    fn from(old: core_logical::Old<'a>) -> Old<'a> {
+        match old {
+            core_logical::Old::Key(row) => Old::Key(row.into()),
+            core_logical::Old::Whole(row) => Old::Whole(row.into()),
+        }
+    }
+}
+
+impl<'a> From<core_logical::Insert<'a>> for Insert<'a> {
+    #[inline]
+    fn from(it: core_logical::Insert<'a>) -> Insert<'a> {
+        Insert { transaction: it.transaction, relation: it.relation, new: it.new.into() }
+    }
+}
+
+impl<'a> From<core_logical::Update<'a>> for Update<'a> {
+    #[inline]
+    fn from(it: core_logical::Update<'a>) -> Update<'a> {
+        let (transaction, relation) = (it.transaction, it.relation);
+        Update { transaction, relation, old: it.old.map(Old::from), new: it.new.into() }
+    }
+}
+
+impl<'a> From<core_logical::Delete<'a>> for Delete<'a> {
+    #[inline]
+    fn from(it: core_logical::Delete<'a>) -> Delete<'a> {
+        Delete { transaction: it.transaction, relation: it.relation, old: it.old.into() }
+    }
+}
+
+impl<'a> From<core_logical::Truncate<'a>> for Truncate<'a> {
+    fn from(it: core_logical::Truncate<'a>) -> Truncate<'a> {
+        let (transaction, options) = (it.transaction, it.options);
+        Truncate { transaction, options, relations: it.relations.into() }
+    }
+}
+
+impl<'a> Relation<'a> {
+    pub(super) fn sent(
+        self,
+        columns: &'a mut Vec<core_logical::Column<'a>>,
+    ) -> core_logical::Relation<'a> {
+        core_logical::Relation {
+            transaction: self.transaction,
+            relation: self.relation,
+            schema: self.schema.0,
+            name: self.name.0,
+            replica_identity: self.replica_identity,
+            columns: self.columns.sent(columns),
+        }
+    }
+}
+
+impl<'a> Old<'a> {
+    fn sent(
+        self,
+        values: &'a mut Vec<DatumText<'a>>,
+    ) -> Result<core_logical::Old<'a>, ProtocolFault> {
+        Ok(match self {
+            Old::Key(row) => core_logical::Old::Key(row.sent(values)?),
+            Old::Whole(row) => core_logical::Old::Whole(row.sent(values)?),
+        })
+    }
+}
+
+impl<'a> Insert<'a> {
+    pub(super) fn sent(
+        self,
+        values: &'a mut Vec<DatumText<'a>>,
+    ) -> Result<core_logical::Insert<'a>, ProtocolFault> {
+        let Insert { transaction, relation, new } = self;
+        Ok(core_logical::Insert { transaction, relation, new: new.sent(values)? })
+    }
+}
+
+impl<'a> Update<'a> {
+    pub(super) fn sent(
+        self,
+        old_values: &'a mut Vec<DatumText<'a>>,
+        values: &'a mut Vec<DatumText<'a>>,
+    ) -> Result<core_logical::Update<'a>, ProtocolFault> {
+        let Update { transaction, relation, old, new } = self;
+        let old = old.map(|old| old.sent(old_values)).transpose()?;
+        Ok(core_logical::Update { transaction, relation, old, new: new.sent(values)? })
+    }
+}
+
+impl<'a> Delete<'a> {
+    pub(super) fn sent(
+        self,
+        values: &'a mut Vec<DatumText<'a>>,
+    ) -> Result<core_logical::Delete<'a>, ProtocolFault> {
+        let Delete { transaction, relation, old } = self;
+        Ok(core_logical::Delete { transaction, relation, old: old.sent(values)? })
+    }
+}
+
 impl<'a> Truncate<'a> {
-    pub(super) fn of(content: &'a [u8], it: &sys::pgmsg_logical) -> Truncate<'a> {
-        let relations = Relations::new(content, it.relations);
-        Truncate { transaction: transaction(it), options: it.flags, relations }
+    pub(super) fn sent(self) -> core_logical::Truncate<'a> {
+        let Truncate { transaction, options, relations } = self;
+        core_logical::Truncate { transaction, options, relations: relations.sent() }
     }
 }

@@ -1,39 +1,46 @@
-//! The lists of a message, whose items are read of it again, some at a time, or are given by a caller.
+//! The lists of a message, whose items are read of it as they are asked for, or are given by a caller.
 
-use super::{text, Column, Datum};
-use crate::calls::{ask, call};
-use crate::error::Fault;
-use crate::sys::{pgmsg_datum, pgmsg_list, pgmsg_table_column};
+use super::{Column, Datum};
+use alloc::vec::Vec;
 use core::fmt;
-use core::slice;
-
-/// How many items are read at a time.
-pub(super) const FEW: usize = 16;
+use pgmsg_core::pg_base::ProtocolFault;
+use pgmsg_core::pg_replication::logical as core_logical;
 
 /// The items of a list, borrowed from their message or from a caller.
-pub struct Items<'a, T> {
-    /// Those of a message.
-    content: &'a [u8],
-    list: pgmsg_list,
-    /// Those of a caller, after them.
-    given: &'a [T],
+#[derive(Clone, Copy)]
+pub struct Items<'a, T>(Source<'a, T>);
+
+/// Where the items are that are left.
+#[derive(Clone, Copy)]
+enum Source<'a, T> {
+    Given(&'a [T]),
+    Read(Read<'a>),
+}
+
+/// A list of a message.
+#[doc(hidden)]
+#[derive(Clone, Copy)]
+pub enum Read<'a> {
+    Tuple(core_logical::Tuple<'a>),
+    Columns(core_logical::Columns<'a>),
+    Relations(core_logical::Relations<'a>),
 }
 
 impl<'a, T> Items<'a, T> {
-    #[inline]
-    pub(super) fn new(content: &'a [u8], list: pgmsg_list) -> Items<'a, T> {
-        Items { content, list, given: &[] }
-    }
-
     /// These items, to be written.
     pub const fn of(given: &'a [T]) -> Items<'a, T> {
-        Items { content: &[], list: pgmsg_list { at: 0, count: 0 }, given }
+        Items(Source::Given(given))
     }
 
     /// How many items there are.
     #[inline]
     pub fn len(&self) -> usize {
-        self.list.count + self.given.len()
+        match &self.0 {
+            Source::Given(items) => items.len(),
+            Source::Read(Read::Tuple(items)) => items.len(),
+            Source::Read(Read::Columns(items)) => items.len(),
+            Source::Read(Read::Relations(items)) => items.len(),
+        }
     }
 
     /// Whether there is no item.
@@ -47,20 +54,71 @@ impl<'a, T: Listed<'a>> Items<'a, T> {
     /// The items in order.
     #[inline]
     pub fn iter(&self) -> Iter<'a, T> {
-        let places = [T::Place::default(); FEW];
-        let (content, rest, given) = (self.content, self.list, self.given.iter());
-        Iter { content, rest, places, placed: 0, next: 0, given }
+        Iter(*self)
     }
 }
 
-impl<T> Clone for Items<'_, T> {
+/// As they are written.
+impl<'a> Items<'a, Datum<'a>> {
+    pub(super) fn sent(
+        self,
+        room: &'a mut Vec<core_logical::DatumText<'a>>,
+    ) -> Result<core_logical::Tuple<'a>, ProtocolFault> {
+        match self.0 {
+            Source::Read(Read::Tuple(items)) => Ok(items),
+            _ => {
+                room.extend(self.iter().map(|datum| core_logical::DatumText::of(datum.into())));
+                core_logical::Tuple::of(room)
+            }
+        }
+    }
+}
+
+/// As they are written.
+impl<'a> Items<'a, Column<'a>> {
+    pub(super) fn sent(
+        self,
+        room: &'a mut Vec<core_logical::Column<'a>>,
+    ) -> core_logical::Columns<'a> {
+        match self.0 {
+            Source::Read(Read::Columns(items)) => items,
+            _ => {
+                room.extend(self.iter().map(core_logical::Column::from));
+                core_logical::Columns::of(room)
+            }
+        }
+    }
+}
+
+/// As they are written.
+impl<'a> Items<'a, u32> {
+    pub(super) fn sent(self) -> core_logical::Relations<'a> {
+        match self.0 {
+            Source::Given(items) => core_logical::Relations::of(items),
+            Source::Read(Read::Relations(items)) => items,
+            Source::Read(_) => core_logical::Relations::of(&[]),
+        }
+    }
+}
+
+impl<'a> From<core_logical::Tuple<'a>> for Items<'a, Datum<'a>> {
     #[inline]
-    fn clone(&self) -> Self {
-        *self
+    fn from(items: core_logical::Tuple<'a>) -> Self {
+        Items(Source::Read(Read::Tuple(items)))
     }
 }
 
-impl<T> Copy for Items<'_, T> {}
+impl<'a> From<core_logical::Columns<'a>> for Items<'a, Column<'a>> {
+    fn from(items: core_logical::Columns<'a>) -> Self {
+        Items(Source::Read(Read::Columns(items)))
+    }
+}
+
+impl<'a> From<core_logical::Relations<'a>> for Items<'a, u32> {
+    fn from(items: core_logical::Relations<'a>) -> Self {
+        Items(Source::Read(Read::Relations(items)))
+    }
+}
 
 impl<'a, T: Listed<'a> + PartialEq> PartialEq for Items<'a, T> {
     fn eq(&self, other: &Self) -> bool {
@@ -88,51 +146,26 @@ impl<'a, T: Listed<'a>> IntoIterator for Items<'a, T> {
 
 /// The items of a list in order.
 #[derive(Clone)]
-pub struct Iter<'a, T: Listed<'a>> {
-    content: &'a [u8],
-    /// From the next item on.
-    rest: pgmsg_list,
-    /// The places of some items, up to the next one of which all are passed.
-    places: [T::Place; FEW],
-    placed: usize,
-    next: usize,
-    /// Those of a caller.
-    given: slice::Iter<'a, T>,
-}
-
-impl<'a, T: Listed<'a>> Iter<'a, T> {
-    /// Finds the places of the next items.
-    #[inline]
-    fn fill(&mut self) -> Result<(), Fault> {
-        let list = pgmsg_list { at: self.rest.at, count: self.rest.count.min(FEW) };
-        self.placed = T::places(self.content, list, &mut self.places)?;
-        self.next = 0;
-        Ok(())
-    }
-}
+pub struct Iter<'a, T>(Items<'a, T>);
 
 impl<'a, T: Listed<'a>> Iterator for Iter<'a, T> {
     type Item = T;
 
     #[inline]
     fn next(&mut self) -> Option<T> {
-        if self.rest.count == 0 {
-            return self.given.next().copied();
+        match &mut self.0 .0 {
+            Source::Read(items) => T::next(items),
+            Source::Given(items) => {
+                let (item, rest) = items.split_first()?;
+                *items = rest;
+                Some(*item)
+            }
         }
-        if self.next == self.placed {
-            // The library refuses no part of a list that it gave.
-            self.fill().ok()?;
-        }
-        let item = T::at(self.content, self.places.get(self.next)?).ok()?;
-        self.next += 1;
-        self.rest = pgmsg_list { at: self.rest.at + item.length(), count: self.rest.count - 1 };
-        Some(item)
     }
 
     #[inline]
     fn size_hint(&self) -> (usize, Option<usize>) {
-        let count = self.rest.count + self.given.len();
-        (count, Some(count))
+        (self.0.len(), Some(self.0.len()))
     }
 }
 
@@ -140,97 +173,41 @@ impl<'a, T: Listed<'a>> ExactSizeIterator for Iter<'a, T> {}
 
 impl<'a, T: Listed<'a> + fmt::Debug> fmt::Debug for Iter<'a, T> {
     fn fmt(&self, f: &mut fmt::Formatter<'_>) -> fmt::Result {
-        f.debug_list().entries(self.clone()).finish()
+        self.0.fmt(f)
     }
 }
 
 /// What a list of a message has: values, columns, or the numbers of tables.
 pub trait Listed<'a>: Copy {
-    /// Where an item is, as the library says.
+    /// The next item of a list of a message.
     #[doc(hidden)]
-    type Place: Copy + Default;
-
-    /// Finds the items of a list: how many there are.
-    #[doc(hidden)]
-    fn places(content: &[u8], list: pgmsg_list, room: &mut [Self::Place]) -> Result<usize, Fault>;
-
-    /// The item at a place.
-    #[doc(hidden)]
-    fn at(content: &'a [u8], place: &Self::Place) -> Result<Self, Fault>;
-
-    /// How many bytes of the message the item is.
-    #[doc(hidden)]
-    fn length(&self) -> usize;
+    fn next(items: &mut Read<'a>) -> Option<Self>;
 }
 
 impl<'a> Listed<'a> for Datum<'a> {
-    type Place = pgmsg_datum;
-
     #[inline]
-    fn places(content: &[u8], list: pgmsg_list, room: &mut [pgmsg_datum]) -> Result<usize, Fault> {
-        ask!(pgmsg_read_tuple([content], list, mut [room]))
-    }
-
-    #[inline]
-    fn at(content: &'a [u8], place: &pgmsg_datum) -> Result<Datum<'a>, Fault> {
-        Ok(match place.kind {
-            b'n' => Datum::Null,
-            b'u' => Datum::Unchanged,
-            b't' => Datum::Text(text(content, place.value)?),
-            b'b' => Datum::Binary(text(content, place.value)?),
-            kind => return Err(Fault::unexpected(kind.into())),
-        })
-    }
-
-    /// A letter, and before bytes their length.
-    #[inline]
-    fn length(&self) -> usize {
-        match self {
-            Datum::Null | Datum::Unchanged => 1,
-            Datum::Text(value) | Datum::Binary(value) => 5 + value.len(),
+    fn next(items: &mut Read<'a>) -> Option<Datum<'a>> {
+        match items {
+            Read::Tuple(items) => items.next().map(Datum::from),
+            _ => None,
         }
     }
 }
 
 impl<'a> Listed<'a> for Column<'a> {
-    type Place = pgmsg_table_column;
-
-    fn places(
-        content: &[u8],
-        list: pgmsg_list,
-        room: &mut [pgmsg_table_column],
-    ) -> Result<usize, Fault> {
-        ask!(pgmsg_read_table_columns([content], list, mut [room]))
-    }
-
-    fn at(content: &'a [u8], place: &pgmsg_table_column) -> Result<Column<'a>, Fault> {
-        Ok(Column {
-            flags: place.flags,
-            name: text(content, place.name)?,
-            type_id: place.type_id,
-            type_modifier: place.type_modifier,
-        })
-    }
-
-    /// The flags, the name with its NUL, and two numbers.
-    fn length(&self) -> usize {
-        self.name.len() + 10
+    fn next(items: &mut Read<'a>) -> Option<Column<'a>> {
+        match items {
+            Read::Columns(items) => items.next().map(Column::from),
+            _ => None,
+        }
     }
 }
 
-impl Listed<'_> for u32 {
-    type Place = u32;
-
-    fn places(content: &[u8], list: pgmsg_list, room: &mut [u32]) -> Result<usize, Fault> {
-        // SAFETY: as the module of the calls says.
-        Ok(unsafe { call!(pgmsg_read_types([content], list, mut [room])) })
-    }
-
-    fn at(_: &[u8], number: &u32) -> Result<u32, Fault> {
-        Ok(*number)
-    }
-
-    fn length(&self) -> usize {
-        4
+impl<'a> Listed<'a> for u32 {
+    fn next(items: &mut Read<'a>) -> Option<u32> {
+        match items {
+            Read::Relations(items) => items.next(),
+            _ => None,
+        }
     }
 }
