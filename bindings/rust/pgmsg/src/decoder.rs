@@ -5,6 +5,7 @@ use crate::frame::{Frame, Next};
 use pgmsg_core::pg_base::io::HEADER;
 use pgmsg_core::pg_frames::frontend::{next_frontend_frame, Expects, MAX_FIRST_LENGTH};
 use pgmsg_core::pg_frames::{first_length, next_raw_frame, FrameHead};
+use pgmsg_core::pg_server::frontend::FrontendFault;
 
 /// The bytes of the length of a message without a tag.
 const LENGTH: usize = 4;
@@ -99,25 +100,38 @@ impl Decoder {
     ///
     /// A stream is refused as soon as five bytes show a length below 4 or, of a client, an unknown tag; a
     /// message without a tag, where its length is below 8. The position in the stream is lost then.
-    #[inline]
+    #[inline(always)]
     pub fn next<'a>(&mut self, bytes: &'a [u8]) -> Result<Next<'a>, Fault> {
-        let after = match self.side {
-            Side::Server => next_raw_frame(bytes)?.map(|frame| (frame.rest, Side::Server)),
-            Side::Client(expects) => next_frontend_frame(expects, MAX_FIRST_LENGTH, bytes)?
-                .map(|frame| (frame.rest, Side::Client(frame.next))),
+        let (length, after) = match self.side {
+            Side::Server => match next_raw_frame(bytes)? {
+                Some(frame) => (bytes.len() - frame.rest.len(), Some(Side::Server)),
+                None => (self.needed(bytes), None),
+            },
+            Side::Client(expects) => self.front_of_client(expects, bytes)?,
         };
-        let length = after.map_or_else(|| self.needed(bytes), |(rest, _)| bytes.len() - rest.len());
         if length > self.limit {
             return Err(Refusal::FrameTooLong.into());
         }
         let tag = bytes.first().copied().filter(|_| !self.expects_first());
-        let Some((_, side)) = after else {
+        let Some(side) = after else {
             return Ok(Next::Incomplete { tag, needed: length });
         };
         let frame = Frame { tag, bytes: &bytes[..length], offset: self.offset };
         self.side = side;
         self.advance(length);
         Ok(Next::Frame(frame))
+    }
+
+    /// How many bytes the message at the front of a client's stream has, and, where it is whole, what comes next.
+    fn front_of_client(
+        &self,
+        expects: Expects,
+        bytes: &[u8],
+    ) -> Result<(usize, Option<Side>), FrontendFault> {
+        Ok(match next_frontend_frame(expects, MAX_FIRST_LENGTH, bytes)? {
+            Some(frame) => (bytes.len() - frame.rest.len(), Some(Side::Client(frame.next))),
+            None => (self.needed(bytes), None),
+        })
     }
 
     /// How many bytes the message at the front needs at least, whose length is not refused.

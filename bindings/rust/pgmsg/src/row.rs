@@ -10,10 +10,14 @@ use crate::list::List;
 use crate::value::Value;
 use alloc::vec;
 use alloc::vec::Vec;
-use cells::{Places, LENGTH};
 use core::fmt;
-use pgmsg_core::pg_format::items::Items;
-use pgmsg_core::pg_receive::message::RowReader;
+use pgmsg_core::pg_receive::message::{cell_at, RowReader};
+
+/// Where the first cell begins, after the count.
+const FIRST_CELL: usize = 2;
+
+/// The bytes of a cell's length.
+const LENGTH: usize = 4;
 
 /// Reads the body of a DataRow.
 pub(crate) fn read(body: &[u8]) -> Result<List<'_, Value<'_>>, Fault> {
@@ -86,9 +90,34 @@ impl RowIndex {
 /// ```
 #[inline]
 pub fn places_in(body: &[u8], room: &mut [Cell]) -> Result<usize, Fault> {
-    let cells = Items::begin(checked(body)?, LENGTH)?;
-    cells.read_all_quickly(LENGTH, &mut Places(room.iter_mut()))?;
-    Ok(cells.len())
+    let count = RowReader::new(checked(body)?)?.len();
+    let wanted = count.min(room.len());
+    let (found, mut at) = find(body, &mut room[..wanted]);
+    // Those that there is no room for, and the one that is broken.
+    for _ in found..count {
+        at = cell_at(body, at)?.1;
+    }
+    Ok(count)
+}
+
+/// Finds the first cells of a row, up to one that is broken: how many they are, and the offset after them.
+#[inline]
+fn find(body: &[u8], room: &mut [Cell]) -> (usize, usize) {
+    let (mut found, mut at) = (0, FIRST_CELL);
+    for place in room {
+        let Some(length) = body.get(at..).and_then(<[u8]>::first_chunk) else { break };
+        let (len, start) = (i32::from_be_bytes(*length), at + LENGTH);
+        // A length below 0, which says NULL, is beyond every body without its sign.
+        let end = start as u64 + u64::from(len.cast_unsigned());
+        at = match end <= body.len() as u64 {
+            true => end as usize,
+            false if len < 0 => start,
+            false => break,
+        };
+        *place = Cell::new(start, len);
+        found += 1;
+    }
+    (found, at)
 }
 
 /// A row: for each column the bytes of its value, or `None` where it is NULL.
@@ -116,7 +145,7 @@ impl<'b, 'r> Row<'b, 'r> {
     /// The cell of a column, counted from 0, or `None` where the row has no such column.
     #[inline]
     pub fn get(&self, index: usize) -> Option<Option<&'b [u8]>> {
-        self.cells.get(index).map(|cell| cell.value(self.body))
+        self.cells.get(index).map(|cell| cell.value_in(self.body))
     }
 
     /// The cells in order.

@@ -3,12 +3,6 @@
 use core::iter::FusedIterator;
 use core::ops::Range;
 use core::slice;
-use pgmsg_core::pg_base::ProtocolFault;
-use pgmsg_core::pg_format::items::{Item, Keeper, QuickItem};
-use pgmsg_core::pg_receive::message::cell_at;
-
-/// The bytes of a cell's length.
-pub(super) const LENGTH: usize = 4;
 
 /// The place of a cell in the body of its row. The default is an empty value at the front.
 #[derive(Clone, Copy, Debug, Default)]
@@ -19,6 +13,11 @@ pub struct Cell {
 }
 
 impl Cell {
+    #[inline(always)]
+    pub(super) fn new(at: usize, len: i32) -> Cell {
+        Cell { at: at as u32, len }
+    }
+
     /// Where the value lies in the body, or `None` where it is NULL.
     #[inline]
     pub fn range(&self) -> Option<Range<usize>> {
@@ -33,41 +32,18 @@ impl Cell {
         body.get(self.range()?)
     }
 
+    /// The value in the body that the cell was read of, or `None` where it is NULL: its length is beyond every body
+    /// then, without its sign.
+    #[inline]
+    pub(super) fn value_in<'b>(&self, body: &'b [u8]) -> Option<&'b [u8]> {
+        let start = self.at as usize;
+        body.get(start..start.wrapping_add(self.len.cast_unsigned() as usize))
+    }
+
     /// Whether it is NULL.
     #[inline]
     pub fn is_null(&self) -> bool {
         self.len < 0
-    }
-}
-
-impl<'a> Item<'a> for Cell {
-    fn item_at(body: &'a [u8], at: usize) -> Result<(Cell, usize), ProtocolFault> {
-        let (value, end) = cell_at(body, at)?;
-        let len = value.map_or(-1, |value| value.len() as i32);
-        Ok((Cell { at: (at + LENGTH) as u32, len }, end))
-    }
-}
-
-impl<'a> QuickItem<'a> for Cell {
-    #[inline(always)]
-    fn item_until(body: &'a [u8], at: usize, last: usize) -> Option<(Cell, usize)> {
-        let len = i32::from_be_bytes(*body.get(at..)?.first_chunk()?);
-        let start = at + LENGTH;
-        // A length below 0 is NULL, and takes no bytes.
-        let end = start + len.max(0) as usize;
-        (end <= last).then_some((Cell { at: start as u32, len }, end))
-    }
-}
-
-/// Where the places of a row go, of which those are left out that there is no room for.
-pub(super) struct Places<'r>(pub(super) slice::IterMut<'r, Cell>);
-
-impl Keeper<'_, Cell> for Places<'_> {
-    #[inline(always)]
-    fn keep(&mut self, _at: usize, cell: Cell, _end: usize) {
-        if let Some(place) = self.0.next() {
-            *place = cell;
-        }
     }
 }
 
@@ -90,7 +66,7 @@ impl<'b> Iterator for Cells<'b, '_> {
 
     #[inline]
     fn next(&mut self) -> Option<Option<&'b [u8]>> {
-        Some(self.cells.next()?.value(self.body))
+        Some(self.cells.next()?.value_in(self.body))
     }
 
     #[inline]
@@ -102,7 +78,7 @@ impl<'b> Iterator for Cells<'b, '_> {
 impl DoubleEndedIterator for Cells<'_, '_> {
     #[inline]
     fn next_back(&mut self) -> Option<Self::Item> {
-        Some(self.cells.next_back()?.value(self.body))
+        Some(self.cells.next_back()?.value_in(self.body))
     }
 }
 
