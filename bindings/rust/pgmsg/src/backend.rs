@@ -34,6 +34,7 @@ use crate::frame::Frame;
 use crate::frontend::read_data;
 use crate::list::List;
 use crate::message::{messages, put_nothing, read_nothing};
+use crate::owned::{owned, Kept};
 use crate::value::Value;
 use crate::Oid;
 use answers::read_other;
@@ -146,6 +147,25 @@ messages! {
         /// The columns of a result.
         RowDescription(columns: List<'a, Column<'a>>) = b'T', columns::read, columns::write;
     }
+}
+
+owned! {
+    /// A message from a server that owns its bytes: it is `'static` and `Send`.
+    ///
+    /// ```
+    /// use pgmsg::backend::{Message, OwnedMessage};
+    /// use pgmsg::Decoder;
+    ///
+    /// let mut decoder = Decoder::of_server();
+    /// let frame = decoder.next(b"C\0\0\0\x0dSELECT 1\0")?.frame().ok_or("a whole message")?;
+    /// let done = OwnedMessage::read(&frame)?;
+    /// let other = std::thread::spawn(move || match done.message() {
+    ///     Message::CommandComplete(tag) => tag.to_str_lossy().into_owned(),
+    ///     other => panic!("{other:?}"),
+    /// });
+    /// assert_eq!(other.join().ok(), Some("SELECT 1".to_string()));
+    /// # Ok::<(), Box<dyn std::error::Error>>(())
+    /// ```
 }
 
 impl Message<'_> {

@@ -36,6 +36,7 @@ use crate::byte_str::ByteStr;
 use crate::error::{Fault, Refusal};
 use crate::frame::Frame;
 use crate::message::{messages, put_nothing, read_nothing};
+use crate::owned::{owned, Kept};
 use first::{put_gss_enc_request, put_ssl_request, read_first};
 use pgmsg_core::pg_base::io::Ended;
 use pgmsg_core::pg_send::message::round_trip::check_ended;
@@ -122,6 +123,19 @@ messages! {
         /// The session ends.
         Terminate = b'X';
     }
+}
+
+owned! {
+    /// A message from a client that owns its bytes: it is `'static` and `Send`.
+    ///
+    /// ```
+    /// use pgmsg::frontend::{Message, OwnedMessage};
+    ///
+    /// let query = OwnedMessage::try_from(&Message::Query("SELECT 1".into()))?;
+    /// let other = std::thread::spawn(move || query.message().name());
+    /// assert_eq!(other.join().ok(), Some("Query"));
+    /// # Ok::<(), pgmsg::Fault>(())
+    /// ```
 }
 
 impl Message<'_> {

@@ -59,6 +59,7 @@ mod frame;
 pub mod frontend;
 mod list;
 mod message;
+mod owned;
 pub mod relay;
 pub mod replication;
 mod row;
