@@ -39,12 +39,12 @@ compile_tape_crates() {
     fi
 }
 
-# Runs cargo of $cargo_folder in a folder on a library, without what only a debugger takes. What it builds is in one place
+# Runs cargo of $cargo_folder in a folder, without what only a debugger takes. What it builds is in one place
 # for all that take the same crates.
 by_cargo() {
     env -C "$1" PATH="$cargo_folder:$PATH" RUSTC="$cargo_folder/rustc" RUSTDOC="$cargo_folder/rustdoc" \
         RUSTDOCFLAGS=-Dwarnings CARGO_INCREMENTAL=0 CARGO_PROFILE_DEV_DEBUG=0 CARGO_TARGET_DIR="$PWD/out/cargo" \
-        PGMSG_LIB_DIR="$(dirname "$(realpath "${LIBRARY:-none}")")" "$cargo_folder/cargo" "$2" --offline --quiet "${@:3}"
+        "$cargo_folder/cargo" "$2" --offline --quiet "${@:3}"
 }
 
 # The same where each warning of the compiler and of clippy about the workspace's own crates is an error: they are compiled
@@ -71,22 +71,6 @@ expect_format() {
     expect "the workspace $1 is formatted by rustfmt" 0
 }
 
-# Writes a registry of empty crates, of which cargo resolves what is optional: it looks for that also where nothing asks
-# for it.
-write_registry() {
-    local crate name version features feature
-    for crate in 'bytes 1.2.0' 'hmac 0.12.0' 'sha2 0.10.0' 'tokio-util 0.7.0 codec'; do
-        read -r name version features <<< "$crate"
-        mkdir -p "$1/$name/src"
-        : > "$1/$name/src/lib.rs"
-        echo '{"files":{}}' > "$1/$name/.cargo-checksum.json"
-        printf '[package]\nname = "%s"\nversion = "%s"\n[features]\n' "$name" "$version" > "$1/$name/Cargo.toml"
-        for feature in $features; do
-            echo "$feature = []" >> "$1/$name/Cargo.toml"
-        done
-    done
-}
-
 # Where the compiled crates of others are kept between clones, as `rt ci` keeps proofs: by all that they are compiled by and of.
 kept_crates() {
     local folder
@@ -94,9 +78,9 @@ kept_crates() {
         while read -r folder _; do
             "$folder/rustc" --version --verbose
             "$folder/cargo" --version
-        done < <(rust_folders 1.63)
+        done < <(rust_folders 1.87)
         ls -d "$registry"/*
-        cat tests/system/cargo.sh bindings/rust/*/Cargo.toml bindings/rust/tokio-postgres/{,spoken/,postgres-protocol/}Cargo.toml programs/{,*/}Cargo.toml
+        cat tests/system/cargo.sh bindings/rust/*/Cargo.toml plain/*/Cargo.toml bindings/rust/tokio-postgres/{,spoken/,postgres-protocol/}Cargo.toml programs/{,*/}Cargo.toml
     } | sha256sum | cut -c -16)"
 }
 
@@ -120,7 +104,7 @@ keep_crates() {
     mkdir -p "$(dirname "$kept")"
     cp -a out/cargo "$new"
     rm -rf "$new"/{doc,package,release,tmp,debug/examples,debug/incremental}
-    mapfile -t own < <(sed -n 's/^name = "\(.*\)"/\1/p' bindings/rust/*/Cargo.toml bindings/rust/tokio-postgres/*/Cargo.toml programs/*/Cargo.toml)
+    mapfile -t own < <(sed -n 's/^name = "\(.*\)"/\1/p' bindings/rust/*/Cargo.toml plain/*/Cargo.toml bindings/rust/tokio-postgres/*/Cargo.toml programs/*/Cargo.toml)
     for name in "${own[@]}"; do
         rm -rf "$new"/debug/{.fingerprint,build}/"$name"-* "$new"/debug/deps/{,lib}"${name//-/_}"-*
     done

@@ -17,7 +17,7 @@ driver_lacks=
 # of the same crates.
 build_on_original() {
     local cargo_folder
-    if ! read -r cargo_folder _ < <(rust_folders 1.63); then
+    if ! read -r cargo_folder _ < <(rust_folders $oldest_rust); then
         driver_lacks=' cargo rustc'
     elif ! has_crates "${drop_in_crates[@]}" "${driver_crates[@]}"; then
         driver_lacks=$lacking
@@ -33,8 +33,8 @@ build_on_original() {
 }
 
 test_drop_in() {
-    local cargo_folder patches=(--config "patch.crates-io.pgmsg.path='$PWD/bindings/rust/pgmsg'" --config "patch.crates-io.pgmsg-sys.path='$PWD/bindings/rust/pgmsg-sys'")
-    if ! has_crates "${drop_in_crates[@]}" || ! read -r cargo_folder _ < <(rust_folders 1.63); then
+    local cargo_folder patches=(--config "patch.crates-io.pgmsg.path='$PWD/bindings/rust/pgmsg'" "${core_patches[@]}")
+    if ! has_crates "${drop_in_crates[@]}" || ! read -r cargo_folder _ < <(rust_folders $oldest_rust); then
         echo "left out: the crate postgres-protocol-pgmsg, which needs the packages cargo rustc$lacking"
         return
     fi
@@ -61,7 +61,7 @@ test_tokio_postgres() {
         echo "left out: the tests of tokio-postgres, which need the packages$driver_lacks"
         return
     fi
-    read -r cargo_folder _ < <(rust_folders 1.63)
+    read -r cargo_folder _ < <(rust_folders $oldest_rust)
     if (exec 3<> "/dev/tcp/127.0.0.1/$driver_port") 2> /dev/null; then
         echo "left out: the tests of tokio-postgres, which need port $driver_port of this machine"
         return
