@@ -32,7 +32,7 @@ tape_crates=(anyhow base64 bytes clap crc32fast hex indicatif memchr once_cell o
 # Compiles these, which takes no library, where they are there.
 compile_tape_crates() {
     local cargo_folder
-    if read -r cargo_folder _ < <(rust_folders 1.65) && has_crates "${tape_crates[@]/%clap/clap-4}"; then
+    if read -r cargo_folder _ < <(rust_folders 1.87) && has_crates "${tape_crates[@]/%clap/clap-4}"; then
         # What a newer cargo wrote an older one may not read.
         rm -f programs/Cargo.lock
         by_cargo programs build "${tape_crates[@]/#/--package=}"

@@ -81,17 +81,17 @@ fn main() -> Result<(), pgmsg::Refusal> {
 }
 END
     cp -r bindings/rust/.cargo "$program"
-    try "$cargo_folder/cargo" add --offline --quiet --manifest-path "$program/Cargo.toml" --path "$PWD/bindings/rust/pgmsg"
+    try env -C "$program" "$cargo_folder/cargo" add --offline --quiet --path "$PWD/bindings/rust/pgmsg"
     expect "$name: is added" 0
     try env -C "$program" PATH="$cargo_folder:$PATH" RUSTC="$cargo_folder/rustc" CARGO_TARGET_DIR="$program/target" \
-        "$cargo_folder/cargo" run --offline --quiet --manifest-path "$program/Cargo.toml"
+        "$cargo_folder/cargo" run --offline --quiet
     same "$name" "$status $output" '0 14'
 }
 
 # The crates of the programs.
 test_tape() {
     local cargo_folder count inputs
-    read -r cargo_folder _ < <(rust_folders 1.65)
+    read -r cargo_folder _ < <(rust_folders 1.87)
     expect_format programs
     same 'the crates of pg_record: each file that is compiled by itself forbids unsafe code' \
         "$(grep -L '^#!\[forbid(unsafe_code)\]$' programs/*/src/{lib,main}.rs programs/*/{examples,tests}/*.rs 2> /dev/null)" ''

@@ -24,8 +24,9 @@ mod prepared;
 
 pub use bind::{Bind, FunctionCall};
 pub use copy::copy_head;
-pub use first::{CancelRequest, Setting, Settings, Startup, MAX_FIRST_LENGTH};
+pub use first::{CancelRequest, Setting, Settings, Startup};
 pub use password::{Md5Password, Password, PasswordMessage, SaslInitialResponse};
+pub use pgmsg_core::pg_frames::frontend::MAX_FIRST_LENGTH;
 pub use prepared::{Execute, Parse, Target};
 
 pub(crate) use copy::read as read_data;

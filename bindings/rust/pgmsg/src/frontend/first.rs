@@ -7,7 +7,6 @@ use crate::byte_str::{ByteStr, Secret};
 use crate::error::{Fault, Refusal};
 use crate::list::List;
 use pgmsg_core::pg_base::io::part::{Byte, Number32, Then};
-pub use pgmsg_core::pg_frames::frontend::MAX_FIRST_LENGTH;
 use pgmsg_core::pg_send::message::settings::{check_settings, AsSetting};
 use pgmsg_core::pg_send::message::untagged::{untagged_len, Untagged};
 use pgmsg_core::pg_send::message::{self as sent, settings, PROTOCOL_VERSION};

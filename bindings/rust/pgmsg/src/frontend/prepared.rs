@@ -8,7 +8,7 @@ use crate::list::List;
 use crate::Oid;
 use core::num::NonZeroU32;
 use pgmsg_core::pg_send::message::{RawExecute, RawParse, RawTargetOf};
-use pgmsg_core::pg_server::frontend::{self as sent, ExecuteRef, ParseRef, TargetRef};
+use pgmsg_core::pg_server::frontend::{self as core_frontend, ExecuteRef, ParseRef, TargetRef};
 
 /// A statement that is prepared.
 ///
@@ -82,8 +82,8 @@ impl<'a> Target<'a> {
     pub fn read(body: &'a [u8]) -> Result<Target<'a>, Fault> {
         let TargetRef { target, name } = TargetRef::read(checked(body)?)?;
         Ok(match target {
-            sent::Target::Statement => Target::Statement(ByteStr(name)),
-            sent::Target::Portal => Target::Portal(ByteStr(name)),
+            core_frontend::Target::Statement => Target::Statement(ByteStr(name)),
+            core_frontend::Target::Portal => Target::Portal(ByteStr(name)),
         })
     }
 
