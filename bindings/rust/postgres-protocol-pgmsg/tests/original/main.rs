@@ -25,7 +25,7 @@ fn random_streams_are_read_alike() {
         let (front, back) = stream.split_at(random.below(stream.len() + 1));
         let ours = read::ours::read(&[front, back]);
         let theirs = read::theirs::read(&[front, back]);
-        refused += usize::from(ours.last().map_or(false, |last| last == "refused"));
+        refused += usize::from(ours.last().is_some_and(|last| last == "refused"));
         if ours != theirs {
             assert!(is_named(&ours, &theirs), "{stream:02x?}:\n{ours:#?}\n{theirs:#?}");
             named += 1;
@@ -41,7 +41,7 @@ fn is_named(ours: &[String], theirs: &[String]) -> bool {
     let is_refused = same + 1 == ours.len() && ours[same] == "refused";
     let other = theirs[same].split_once(' ').map_or("", |(_, message)| message);
     let status = other.strip_prefix("ReadyForQuery ");
-    let is_ready = status.map_or(false, |status| !["(73,)", "(84,)", "(69,)"].contains(&status));
+    let is_ready = status.is_some_and(|status| !["(73,)", "(84,)", "(69,)"].contains(&status));
     let is_long = same > 0 && ours[same - 1] == "refused" && theirs[same].parse::<usize>().is_ok();
     is_refused && (is_ready || is_long)
 }
