@@ -1,6 +1,6 @@
 -- The names of prepared statements and portals, and the order in which they are handed out.
 use Rattle.std.specs.Prelude.{◌≡◌, ◌≢◌, ℕ, ◌+◌, ◌≤◌, ◌==◌, List, [], ◌++◌, codes, decimal, if◌then◌else◌}
-use Rattle.pg_base.specs.Text.{ended}
+use Rattle.pg_base.specs.Ended.{ended}
 
 -- the greatest id; 0 is the one without a name
 abbrev pub max_id : ℕ

@@ -5,6 +5,7 @@ pub mod Decode
 pub mod Derived
 pub mod Either
 pub mod Encode
+pub mod Ended
 pub mod Error
 pub mod Format
 pub mod Id
@@ -14,4 +15,3 @@ pub mod Part
 pub mod Reading
 pub mod Sink
 pub mod Tagged
-pub mod Text

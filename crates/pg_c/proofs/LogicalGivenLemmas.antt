@@ -17,7 +17,7 @@ use Rattle.pg_format.specs.declared.logical.LogicalKind.{LogicalKind}
 use Rattle.pg_format.specs.declared.logical.LogicalKind.TheVariants as kinds
 use Rattle.pg_replication.specs.Lettered.{Reads, IsTooLong}
 use Rattle.pg_replication.specs.Logical.{LogicalAnswer, ReadsLogical, ReadsLogicalKind, shown_message, shown_origin, shown_relation, shown_type_name, shown_insert, shown_update, shown_delete, shown_truncate, shown_begin_prepare, shown_prepared, shown_rollback_prepared}
-use Rattle.pg_replication.specs.Logical.Columns.{columns_shown}
+use Rattle.pg_replication.specs.Logical.TableColumns.{columns_shown}
 use Rattle.pg_replication.specs.Logical.Old.{shown_old}
 use Rattle.pg_replication.specs.Logical.Relations.{relation_ids}
 use Rattle.pg_replication.specs.Logical.Tuple.{datums}

@@ -9,8 +9,8 @@ use Rattle.pg_server.specs.declared.backend.copy.CopyDirection.{CopyDirection}
 use Rattle.pg_server.specs.declared.backend.copy.CopyDirection.TheVariants as directions
 use Rattle.pg_server.specs.declared.backend.notice.NoticeKind.{NoticeKind}
 use Rattle.pg_server.specs.declared.backend.notice.NoticeKind.TheVariants as notices
-use Rattle.pg_server.specs.declared.backend.ready_for_query.ReadyForQueryText.{ReadyForQueryText}
-use Rattle.pg_server.specs.declared.backend.ready_for_query.ReadyForQueryText.TheVariants as statuses
+use Rattle.pg_server.specs.declared.backend.ready_for_query.OutboundReadyForQuery.{OutboundReadyForQuery}
+use Rattle.pg_server.specs.declared.backend.ready_for_query.OutboundReadyForQuery.TheVariants as statuses
 use Rattle.pg_c.specs.Put.{IsRefused}
 use Rattle.pg_c.specs.Server.{PutsServerMessage, PutsByLetter}
 use Rattle.pg_c.specs.Server.Letters.{kind_of, notice_kind_of, direction_of, ready_letter, ready_of}
@@ -53,7 +53,7 @@ direction_found directions.In = refl
 direction_found directions.Out = refl
 direction_found directions.Both = refl
 
-pub ready_found : (ready : ReadyForQueryText) → ready_of (ready_letter ready) ≡ Some ready
+pub ready_found : (ready : OutboundReadyForQuery) → ready_of (ready_letter ready) ≡ Some ready
 ready_found statuses.Idle = refl
 ready_found statuses.Transaction = refl
 ready_found statuses.Error = refl

@@ -7,7 +7,7 @@ pub mod Messages
 use Rattle.std.specs.Prelude.{◌≡◌, ◌≢◌, ◌≤◌, ℕ, ℤ, pos, List, length, Result, Ok, Err, IfOk}
 use Rattle.pg_base.specs.declared.error.ProtocolFault.{ProtocolFault}
 use Rattle.pg_base.specs.declared.error.ProtocolFault.TheVariants.{UnknownMessageType}
-use Rattle.pg_server.specs.Backend.BackendText.{IsWritten}
+use Rattle.pg_server.specs.Backend.OutboundMessage.{IsWritten}
 use Rattle.pg_server.specs.Backend.Message.{Message, law_of, IsRead}
 use Rattle.pg_c.specs.Put.{IsRefused}
 use Rattle.pg_c.specs.Refusal.{fault_number}

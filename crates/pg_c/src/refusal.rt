@@ -156,7 +156,7 @@ pub fn number_of_fault(fault: ProtocolFault) -> i32
 }
 
 // The offset that an error names, 0 where it names none.
-fn place_of(error: Error) -> usize
+fn offset_of(error: Error) -> usize
     ensures { result ≡ fault_place error }
 {
     match error {
@@ -177,7 +177,7 @@ pub fn report(alloc: Global, error: Error, fault: &mut PgmsgFault) -> i32
     ensures below { result <ℤ pos 0 }
 {
     let words = error.to_string(alloc);
-    fill(number_of(error), place_of(error), &words, fault)
+    fill(number_of(error), offset_of(error), &words, fault)
 }
 
 // The number of what is wrong with a message from a client.
@@ -199,7 +199,7 @@ fn number_of_client(fault: FrontendFault) -> i32
 }
 
 // The offset that it names, 0 where it names none.
-fn place_of_client(fault: FrontendFault) -> usize
+fn offset_of_client(fault: FrontendFault) -> usize
     ensures { result ≡ client_place fault }
 {
     match fault {
@@ -217,7 +217,7 @@ pub fn report_client(alloc: Global, why: FrontendFault, fault: &mut PgmsgFault) 
     ensures below { result <ℤ pos 0 }
 {
     let words = why.to_string(alloc);
-    fill(number_of_client(why), place_of_client(why), &words, fault)
+    fill(number_of_client(why), offset_of_client(why), &words, fault)
 }
 
 /// Fills the fault, with words where there are some and it has room for them, and gives the number.

@@ -7,7 +7,7 @@ ghost use Rattle.pg_format.specs.Format.Places.{ReadsAfter};
 use crate::items::Item;
 use crate::text::text_at;
 use pg_base::ProtocolFault;
-use pg_base::io::part::{Nothing, Number32, Number64, Part, Slice, Then};
+use pg_base::io::part::{NoBytes, Number32, Number64, Part, Slice, Then};
 use pg_base::io::{Ended, MAX_BODY, Sink, bytes_at, i16_at, i32_at, i64_at, u8_at, u32_at, u64_at};
 
 /// The fields that a body of at most [`MAX_BODY`] bytes has from an offset on. Nothing may follow them, else the
@@ -131,7 +131,7 @@ impl<'a> Item<'a> for Slice<'a> {
     }
 }
 
-impl<'a> Item<'a> for Nothing {
+impl<'a> Item<'a> for NoBytes {
     ghost use Rattle.pg_format.specs.Format.Parts.{success};
 
     ghost Shown = { Unit {0} };
@@ -141,8 +141,8 @@ impl<'a> Item<'a> for Nothing {
     ghost format = { success tt };
 
     #[inline(always)]
-    fn item_at(_body: &'a [u8], at: usize) -> Result<(Nothing, usize), ProtocolFault> {
-        Ok((Nothing, at))
+    fn item_at(_body: &'a [u8], at: usize) -> Result<(NoBytes, usize), ProtocolFault> {
+        Ok((NoBytes, at))
     }
 }
 

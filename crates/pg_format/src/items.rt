@@ -7,7 +7,7 @@ ghost use Rattle.std.specs.Prelude.{◌≡◌, ◌==◌, ℕ, ◌+◌, ◌*◌, 
 ghost use Rattle.pg_format.specs.Items.{IsCountFault, Begins, NextBreaks, FrontKept, AllKept, EndsBody, GivesNext};
 
 pub use item::{Item, QuickItem};
-pub use keeper::{Keeper, Nothing};
+pub use keeper::{Discard, Keeper};
 use pg_base::ProtocolFault;
 use pg_base::io::{MAX_BODY, bytes_at, u16_at};
 use std::marker::Model;

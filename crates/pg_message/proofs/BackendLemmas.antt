@@ -33,8 +33,8 @@ use Rattle.pg_server.specs.Backend.Message as message
 use Rattle.pg_server.specs.Backend.Message.{Message, law_of, tag, body, fault, IsInRange, IsReadable}
 use Rattle.pg_server.specs.declared.backend.copy.CopyDirection.{CopyDirection}
 use Rattle.pg_server.specs.declared.backend.copy.CopyDirection.TheVariants as directions
-use Rattle.pg_server.specs.declared.backend.no_body.NoBodyText.{NoBodyText}
-use Rattle.pg_server.specs.declared.backend.no_body.NoBodyText.TheVariants as bare
+use Rattle.pg_server.specs.declared.backend.no_body.OutboundNoBody.{OutboundNoBody}
+use Rattle.pg_server.specs.declared.backend.no_body.OutboundNoBody.TheVariants as bare
 use Rattle.pg_server.specs.declared.backend.notice.NoticeKind.{NoticeKind}
 use Rattle.pg_server.specs.declared.backend.notice.NoticeKind.TheVariants as kinds
 use Rattle.pg_base.specs.Part.{byte, number64}
@@ -42,10 +42,10 @@ use Rattle.pg_base.specs.Tagged.{first_fault}
 use Rattle.pg_base.specs.declared.error.ProtocolFault.{ProtocolFault}
 use Rattle.pg_base.proofs.TaggedLemmas.{len_fits, no_part_fault}
 use Rattle.pg_replication.specs.Logical.{ReadsLogical}
-use Rattle.pg_replication.specs.Logical.LogicalText.{content, content_part}
+use Rattle.pg_replication.specs.Logical.Encode.{content, content_part}
 use Rattle.pg_replication.specs.Logical.XLogMessage.{piece_of}
 use Rattle.pg_replication.specs.declared.logical.xlog_message.XLogMessage.{XLogMessage}
-use Rattle.pg_replication.proofs.LogicalTextLemmas as logical
+use Rattle.pg_replication.proofs.LogicalEncodeLemmas as logical
 use Rattle.pg_server.proofs.BackendMessageLemmas.{own_message, own_request}
 use Rattle.pg_message.specs.Backend.{IsDecoded, IsCopyDecoded, IsBareDecoded, IsNoticeDecoded, IsDecodedBack, IsAskedBack, IsReadInPiece, noticed, numbered, streamed}
 
@@ -82,7 +82,7 @@ decoded_copy directions.In m response e t is = decoded copy_in_response.ghosts r
 decoded_copy directions.Out m response e t is = decoded copy_out_response.ghosts response m e (sym t) is
 decoded_copy directions.Both m response e t is = tt
 
-decoded_bare : (kind : NoBodyText) → fault (message.NoBody kind) ≡ None → Means page.no_body (body (message.NoBody kind)) tt → IsBareDecoded kind (message.NoBody kind)
+decoded_bare : (kind : OutboundNoBody) → fault (message.NoBody kind) ≡ None → Means page.no_body (body (message.NoBody kind)) tt → IsBareDecoded kind (message.NoBody kind)
 decoded_bare bare.CopyDone e is = decoded copy_done.ghosts tt (message.NoBody bare.CopyDone) e refl is
 decoded_bare other e is = tt
 

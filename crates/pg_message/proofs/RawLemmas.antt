@@ -19,14 +19,14 @@ use Rattle.pg_receive.specs.RowDescription.Raw.{raw_column, raw_row_description}
 use Rattle.pg_receive.proofs.RowDescriptionRawLemmas.{lawful_raw_column, raw_column_takes}
 use Rattle.pg_receive.specs.Response.Fields.{BeginsWithField, AreFields, fields_in}
 use Rattle.pg_receive.proofs.ResponseFieldsLemmas.{one_fields}
-use Rattle.pg_server.specs.Backend.Item.{too_many, max_unsigned, nul_fault, holds_nul}
+use Rattle.pg_server.specs.Backend.OutboundItem.{too_many, max_unsigned, nul_fault, holds_nul}
 use Rattle.pg_server.specs.Backend.Message as message
 use Rattle.pg_server.specs.Backend.Message.{Message, law_of, body, fault, IsInRange}
 use Rattle.pg_server.specs.Backend.Notice.{breaks_fields}
 use Rattle.pg_server.specs.Backend.RowDescription.{IsColumnInRange}
 use Rattle.pg_server.proofs.BackendFitsLemmas.{fields_fit}
 use Rattle.pg_base.proofs.TaggedLemmas.{no_part_fault}
-use Rattle.pg_server.proofs.BackendItemLemmas.{few, neither, neither_is, both_clean, no_nul_fault, clean}
+use Rattle.pg_server.proofs.BackendOutboundItemLemmas.{few, neither, neither_is, both_clean, no_nul_fault, clean}
 use Rattle.pg_message.specs.Backend.{IsReadRaw}
 
 parts : (m : Message) → fault m ≡ None → (law_of m).part_fault ≡ None

@@ -2,7 +2,7 @@
 use Rattle.std.specs.Prelude.{◌≡◌, ◌↔◌, Bool, List, length, Result}
 use Rattle.pg_base.specs.Format.{backend_tag}
 use Rattle.pg_base.specs.Numbers.{num}
-use Rattle.pg_base.specs.Text.{ended}
+use Rattle.pg_base.specs.Ended.{ended}
 use Rattle.pg_base.specs.declared.error.Error.{Error}
 use Rattle.pg_format.specs.Format.{Format, Means}
 use Rattle.pg_format.specs.Messages as page
@@ -37,8 +37,8 @@ use Rattle.pg_receive.specs.Response.Fields.{fields_in}
 use Rattle.pg_format.specs.declared.received.BackendMessage.{Ghosts}
 use Rattle.pg_format.specs.declared.received.ReceivedMessage.{ReceivedMessage}
 use Rattle.pg_replication.specs.Logical.{LogicalAnswer, ReadsLogical}
-use Rattle.pg_replication.specs.Logical.LogicalText.{IsNumbered, IsSaid}
-use Rattle.pg_replication.specs.contracts.logical.xlog_message.XLogMessageBackendText.TheImpl as xlog_message
+use Rattle.pg_replication.specs.Logical.Encode.{IsNumbered, IsSaid}
+use Rattle.pg_replication.specs.contracts.logical.xlog_message.XLogMessageOutboundMessage.TheImpl as xlog_message
 use Rattle.pg_replication.specs.declared.logical.xlog_message.XLogMessage.{XLogMessage}
 use Rattle.pg_server.specs.Backend.Copy.{response_of}
 use Rattle.pg_server.specs.Backend.Message as message
@@ -46,8 +46,8 @@ use Rattle.pg_server.specs.Backend.Message.{Message, tag, body}
 use Rattle.pg_server.specs.Backend.ReadyForQuery.{status_of}
 use Rattle.pg_server.specs.declared.backend.copy.CopyDirection.{CopyDirection}
 use Rattle.pg_server.specs.declared.backend.copy.CopyDirection.TheVariants as directions
-use Rattle.pg_server.specs.declared.backend.no_body.NoBodyText.{NoBodyText}
-use Rattle.pg_server.specs.declared.backend.no_body.NoBodyText.TheVariants as bare
+use Rattle.pg_server.specs.declared.backend.no_body.OutboundNoBody.{OutboundNoBody}
+use Rattle.pg_server.specs.declared.backend.no_body.OutboundNoBody.TheVariants as bare
 use Rattle.pg_server.specs.declared.backend.notice.NoticeKind.{NoticeKind}
 use Rattle.pg_server.specs.declared.backend.notice.NoticeKind.TheVariants as kinds
 
@@ -69,7 +69,7 @@ IsCopyDecoded directions.In response m = IsDecoded copy_in_response.ghosts respo
 IsCopyDecoded directions.Out response m = IsDecoded copy_out_response.ghosts response m
 IsCopyDecoded directions.Both response m = Unit {0}
 
-abbrev pub IsBareDecoded : NoBodyText → Message → Type 0
+abbrev pub IsBareDecoded : OutboundNoBody → Message → Type 0
 IsBareDecoded bare.CopyDone m = IsDecoded copy_done.ghosts tt m
 IsBareDecoded other m = Unit {0}
 

@@ -3,10 +3,10 @@
 
 pub use bytes::Bytes;
 pub use pg_base::io::{
-    Cursor, DisplayId, Ended, HEADER, LendBytes, MAX_BODY, MAX_LENGTH, Name, Oid, PgBufMutExt,
-    PgValueFormat, PortalId, ProtocolDecode, ProtocolEncode, Sink, StatementId, Tagged, Text,
-    atoi_u32, atoi_u64, atoi_usize, bytes_at, checked_len, i8_at, i16_at, i32_at, i64_at, part,
-    u8_at, u16_at, u32_at, u64_at, write_text,
+    Cursor, DisplayId, Encodable, Ended, HEADER, LendBytes, MAX_BODY, MAX_LENGTH, Name, Oid,
+    PgBufMutExt, PgValueFormat, PortalId, ProtocolDecode, ProtocolEncode, Sink, StatementId,
+    Tagged, atoi_u32, atoi_u64, atoi_usize, bytes_at, checked_len, i8_at, i16_at, i32_at, i64_at,
+    part, u8_at, u16_at, u32_at, u64_at, write_text,
 };
 pub use pg_format::items;
 pub use pg_receive::message::{

@@ -1,4 +1,4 @@
+pub mod LogicalEncodeLemmas
 pub mod LogicalLemmas
 pub mod LogicalListedLemmas
-pub mod LogicalTextLemmas
 pub mod LogicalTupleLemmas

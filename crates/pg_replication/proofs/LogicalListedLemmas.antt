@@ -12,8 +12,8 @@ use Rattle.pg_format.specs.Format.Parts.{be_u8, be_u32}
 use Rattle.pg_format.specs.Format.Places.{IsReadAt}
 use Rattle.pg_format.specs.Listed.{values_in}
 use Rattle.pg_format.specs.Logical.{truncated}
-use Rattle.pg_server.specs.Backend.Item.{nul_fault}
-use Rattle.pg_server.proofs.BackendItemLemmas.{neither_is}
+use Rattle.pg_server.specs.Backend.OutboundItem.{nul_fault}
+use Rattle.pg_server.proofs.BackendOutboundItemLemmas.{neither_is}
 use Rattle.pg_replication.specs.Logical.Listed.{listed}
 
 -- ---- values of a message, and items of a caller after them

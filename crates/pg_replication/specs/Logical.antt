@@ -1,11 +1,11 @@
 -- What the messages of logical replication say, as the page has it.
-pub mod Columns
+pub mod Encode
 pub mod Fields
 pub mod Listed
 pub mod Old
 pub mod Relations
+pub mod TableColumns
 pub mod Tuple
-pub mod LogicalText
 pub mod XLogMessage
 use Rattle.std.specs.Prelude.{ℕ, Bool, true, false, List, Result, Ok, option_map}
 use Rattle.pg_base.specs.declared.error.ProtocolFault.{ProtocolFault}
@@ -14,7 +14,7 @@ use Rattle.pg_format.specs.Logical.{logical_letter}
 use Rattle.pg_format.specs.declared.logical.LogicalKind.{LogicalKind}
 use Rattle.pg_format.specs.declared.logical.LogicalKind.TheVariants as kinds
 use Rattle.pg_replication.specs.Lettered.{Reads, ReadsLettered}
-use Rattle.pg_replication.specs.Logical.Columns.{columns_shown}
+use Rattle.pg_replication.specs.Logical.TableColumns.{columns_shown}
 use Rattle.pg_replication.specs.Logical.Old.{shown_old}
 use Rattle.pg_replication.specs.Logical.Relations.{relation_ids}
 use Rattle.pg_replication.specs.Logical.Tuple.{datums}

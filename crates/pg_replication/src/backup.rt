@@ -9,9 +9,9 @@ ghost use Rattle.pg_replication.specs.ReplicationMessage.{shown_new_archive, sho
 
 use pg_base::ProtocolFault;
 use pg_base::io::MAX_BODY;
-use pg_base::io::part::{Byte, Nothing, Number64, Slice, Then};
+use pg_base::io::part::{Byte, NoBytes, Number64, Slice, Then};
 use pg_format::field::fields_from;
-use pg_server::backend::{BackendText, NulEnded};
+use pg_server::backend::{NulEnded, OutboundMessage};
 
 /// An archive of a backup begins, in the format ustar. A NUL in a text is refused with `TextHoldsNul`.
 /// Documentation: "Streaming Replication Protocol", BASE_BACKUP, new archive (B).
@@ -37,7 +37,7 @@ impl<'a> NewArchive<'a> {
     }
 }
 
-impl<'a> BackendText for NewArchive<'a> {
+impl<'a> OutboundMessage for NewArchive<'a> {
     type Body = Then<Byte, Then<NulEnded<'a>, NulEnded<'a>>>;
 
     ghost message = { λ it. Replication kinds.NewArchive (shown_new_archive it) };
@@ -66,13 +66,13 @@ impl Manifest {
         requires short { length message.now ≤ MAX_BODY }
         ensures { ReadsAfter page.manifest shown_manifest message.now at result }
     {
-        let Nothing = fields_from::<Nothing>(message, at)?;
+        let NoBytes = fields_from::<NoBytes>(message, at)?;
         Ok(Manifest)
     }
 }
 
-impl BackendText for Manifest {
-    type Body = Then<Byte, Nothing>;
+impl OutboundMessage for Manifest {
+    type Body = Then<Byte, NoBytes>;
 
     ghost message = { λ it. Replication kinds.Manifest (shown_manifest it) };
 
@@ -82,7 +82,7 @@ impl BackendText for Manifest {
 
     #[inline(always)]
     fn parts(&self) -> Self::Body {
-        Then(Byte(b'm'), Nothing)
+        Then(Byte(b'm'), NoBytes)
     }
 }
 
@@ -106,7 +106,7 @@ impl<'a> BackupData<'a> {
     }
 }
 
-impl<'a> BackendText for BackupData<'a> {
+impl<'a> OutboundMessage for BackupData<'a> {
     type Body = Then<Byte, Slice<'a>>;
 
     ghost message = { λ it. Replication kinds.BackupData (shown_backup_data it) };
@@ -140,7 +140,7 @@ impl Progress {
     }
 }
 
-impl BackendText for Progress {
+impl OutboundMessage for Progress {
     type Body = Then<Byte, Number64>;
 
     ghost message = { λ it. Replication kinds.Progress (shown_progress it) };

@@ -3,27 +3,25 @@
 //! read by asking for memory.
 
 mod change;
-mod column;
-mod columns;
 mod datum;
+mod encode;
 mod fields;
 mod listed;
 mod logical_message;
 mod logical_stream;
-mod logical_text;
 mod old;
 mod prepared;
 mod relation;
 mod relations;
 mod stream;
+mod table_column;
+mod table_columns;
 mod transaction;
 mod tuple;
 mod xlog_message;
 
 pub use change::{Delete, Insert, Truncate, Update};
-pub use column::Column;
-pub use columns::Columns;
-pub use datum::{Datum, DatumText};
+pub use datum::{Datum, OutboundDatum};
 pub use logical_message::LogicalMessage;
 pub use logical_stream::LogicalStream;
 pub use old::Old;
@@ -32,6 +30,8 @@ pub use prepared::{BeginPrepare, Prepared, RollbackPrepared};
 pub use relation::{Relation, TypeName};
 pub use relations::Relations;
 pub use stream::{StreamAbort, StreamCommit, StreamStart, StreamStop};
+pub use table_column::TableColumn;
+pub use table_columns::TableColumns;
 pub use transaction::{Begin, Commit, Message, Origin};
 pub use tuple::Tuple;
 pub use xlog_message::XLogMessage;

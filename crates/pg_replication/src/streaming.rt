@@ -11,7 +11,7 @@ use pg_base::ProtocolFault;
 use pg_base::io::MAX_BODY;
 use pg_base::io::part::{Byte, Number32, Number64, Slice, Then};
 use pg_format::field::{Flag, Signed64, fields_from};
-use pg_server::backend::BackendText;
+use pg_server::backend::OutboundMessage;
 
 /// A piece of the log. Documentation: "Streaming Replication Protocol", XLogData (B).
 #[derive(Clone, Copy, Debug, PartialEq, Eq)]
@@ -46,7 +46,7 @@ impl<'a> XLogData<'a> {
     }
 }
 
-impl<'a> BackendText for XLogData<'a> {
+impl<'a> OutboundMessage for XLogData<'a> {
     type Body = Then<Byte, XLogDataFields<'a>>;
 
     ghost message = { λ it. Replication kinds.XLogData (shown_xlog_data it) };
@@ -102,7 +102,7 @@ impl PrimaryKeepalive {
     }
 }
 
-impl BackendText for PrimaryKeepalive {
+impl OutboundMessage for PrimaryKeepalive {
     type Body = Then<Byte, PrimaryKeepaliveFields>;
 
     ghost message = { λ it. Replication kinds.PrimaryKeepalive (shown_keepalive it) };
@@ -167,7 +167,7 @@ impl StandbyStatusUpdate {
     }
 }
 
-impl BackendText for StandbyStatusUpdate {
+impl OutboundMessage for StandbyStatusUpdate {
     type Body = Then<Byte, StandbyStatusUpdateFields>;
 
     ghost message = { λ it. Replication kinds.StandbyStatusUpdate (shown_status_update it) };
@@ -242,7 +242,7 @@ impl HotStandbyFeedback {
     }
 }
 
-impl BackendText for HotStandbyFeedback {
+impl OutboundMessage for HotStandbyFeedback {
     type Body = Then<Byte, HotStandbyFeedbackFields>;
 
     ghost message = { λ it. Replication kinds.HotStandbyFeedback (shown_feedback it) };

@@ -9,7 +9,7 @@ use Rattle.pg_base.specs.Cutting.{frame}
 use Rattle.pg_base.specs.Encode.{IsAnswer}
 use Rattle.pg_base.specs.Numbers.{be32}
 use Rattle.pg_base.specs.Reading.{HoldsNo, Text}
-use Rattle.pg_base.specs.Text.{ended}
+use Rattle.pg_base.specs.Ended.{ended}
 use Rattle.pg_base.proofs.CuttingLemmas.{parts_at}
 use Rattle.pg_base.proofs.ReadingLemmas.{one_text}
 use Rattle.pg_format.specs.Format.{Canonical, AreBytes, Means}

@@ -5,7 +5,7 @@ use Rattle.std.proofs.lemmas.List.{append-nil}
 use Rattle.pg_base.specs.Id.{name, statement_prefix, portal_prefix}
 use Rattle.pg_base.specs.Numbers.{be16}
 use Rattle.pg_base.specs.Reading.{Text}
-use Rattle.pg_base.specs.Text.{ended}
+use Rattle.pg_base.specs.Ended.{ended}
 use Rattle.pg_format.specs.Format.{Format, Lawful, Canonical, AreBytes, Means}
 use Rattle.pg_format.specs.Format.Nullable.{value}
 use Rattle.pg_format.specs.Messages as page

@@ -6,7 +6,7 @@ use Rattle.pg_base.specs.declared.error.ProtocolFault.TheVariants.{TooManyParamF
 use Rattle.pg_base.specs.Cutting.{max_length}
 use Rattle.pg_base.specs.Numbers.{be16, be32}
 use Rattle.pg_base.specs.Reading.{HoldsNo}
-use Rattle.pg_base.specs.Text.{ended}
+use Rattle.pg_base.specs.Ended.{ended}
 use Rattle.pg_format.specs.Format.{Means}
 use Rattle.pg_format.specs.Messages as page
 use Rattle.pg_format.proofs.FormatLaws.FromClient as client

@@ -4,7 +4,7 @@ use Rattle.std.specs.Borrow.{Bor}
 use Rattle.std.specs.List.{flat_map, All}
 use Rattle.pg_base.specs.Numbers.{be32}
 use Rattle.pg_base.specs.Reading.{HoldsNo}
-use Rattle.pg_base.specs.Text.{ended}
+use Rattle.pg_base.specs.Ended.{ended}
 use Rattle.pg_send.specs.declared.message.startup.Startup.{Startup}
 
 pub record StartupFields : Type 0 where

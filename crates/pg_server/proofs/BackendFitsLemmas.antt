@@ -6,17 +6,17 @@ use Rattle.std.proofs.lemmas.Bool.{eq-eqb}
 use Rattle.std.proofs.lemmas.List.Elements.{All-head, All-tail}
 use Rattle.pg_base.specs.Cutting.{max_length}
 use Rattle.pg_base.specs.Numbers.{be32}
-use Rattle.pg_base.specs.Text.{ended}
+use Rattle.pg_base.specs.Ended.{ended}
 use Rattle.pg_format.specs.Format.Lists.{AllFit}
 use Rattle.pg_format.specs.Format.Nullable.{cell}
 use Rattle.pg_format.specs.Format.Parts.{be_i16, be_u32, until_nul, FitsSigned}
 use Rattle.pg_format.specs.Format.Tests.{only}
 use Rattle.pg_format.specs.Messages as page
 use Rattle.pg_format.specs.Notices.{Field}
-use Rattle.pg_server.specs.Backend.Item.{holds_nul, is_empty, breaks_names}
+use Rattle.pg_server.specs.Backend.OutboundItem.{holds_nul, is_empty, breaks_names}
 use Rattle.pg_server.specs.Backend.Notice.{breaks_fields}
 use Rattle.pg_server.specs.Backend.RowDescription.{IsColumnInRange}
-use Rattle.pg_server.proofs.BackendItemLemmas.{neither_is, clean}
+use Rattle.pg_server.proofs.BackendOutboundItemLemmas.{neither_is, clean}
 
 -- ---- lists
 

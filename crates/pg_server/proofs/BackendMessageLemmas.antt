@@ -16,14 +16,14 @@ use Rattle.pg_format.specs.declared.replication.ReplicationKind.TheVariants as c
 use Rattle.pg_format.proofs.FormatLaws.Replication.{lawful_replication}
 use Rattle.pg_format.proofs.FormatLaws.FromServer as server
 use Rattle.pg_format.proofs.FormatLaws.Parts.{lawful_remaining}
-use Rattle.pg_server.specs.Backend.BackendText.{part_of, body, fault}
-use Rattle.pg_server.specs.Backend.Item.{too_many, max_unsigned, max_signed, nul_fault, holds_nul, breaks_names}
+use Rattle.pg_server.specs.Backend.OutboundMessage.{part_of, body, fault}
+use Rattle.pg_server.specs.Backend.OutboundItem.{too_many, max_unsigned, max_signed, nul_fault, holds_nul, breaks_names}
 use Rattle.pg_server.specs.Backend.Message as message
 use Rattle.pg_server.specs.Backend.Message.{Message, law_of, IsInRange, IsReadable, IsRead, replication_fault, IsReplicationInRange}
 use Rattle.pg_server.specs.Backend.Notice.{breaks_fields}
 use Rattle.pg_server.proofs.BackendFitsLemmas.{numbers_fit, codes_fit, cell_fits, cells_fit, texts_fit, few_names, names_fit, fields_fit, columns_fit}
 use Rattle.pg_base.proofs.TaggedLemmas.{len_fits, no_part_fault, no_fault}
-use Rattle.pg_server.proofs.BackendItemLemmas.{few, neither, both_clean, no_nul_fault, clean}
+use Rattle.pg_server.proofs.BackendOutboundItemLemmas.{few, neither, both_clean, no_nul_fault, clean}
 
 -- no part of it has a fault, and its body is within the limit
 parts : (m : Message) → fault (law_of m) ≡ None → (law_of m).part_fault ≡ None

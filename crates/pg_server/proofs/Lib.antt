@@ -1,7 +1,7 @@
 pub mod BackendFitsLemmas
-pub mod BackendItemLemmas
 pub mod BackendMessageLemmas
 pub mod BackendNumbersLemmas
+pub mod BackendOutboundItemLemmas
 pub mod FrontendErrorLemmas
 pub mod FrontendFormatCodesLemmas
 pub mod FrontendMessageLemmas

@@ -41,8 +41,8 @@ use answers::read_other;
 use pgmsg_core::pg_base::{BackendMessageFormat, ProtocolFault};
 use pgmsg_core::pg_receive::message::body_end;
 use pgmsg_core::pg_server::backend::{
-    CommandCompleteText, CopyDataText, CopyDirection, DataRowText, NoticeKind,
-    ParameterDescriptionText,
+    CopyDirection, NoticeKind, OutboundCommandComplete, OutboundCopyData, OutboundDataRow,
+    OutboundParameterDescription,
 };
 
 /// The offset after the last part of a body, by the tag of its message: `body.len()` where nothing
@@ -107,9 +107,9 @@ messages! {
         /// A Close succeeded.
         CloseComplete = b'3';
         /// A command succeeded: its tag, such as `INSERT 0 1`, of which [`rows_affected`] has the number.
-        CommandComplete(command: ByteStr<'a>) = b'C', answers::read_command, put_answer(&CommandCompleteText { command });
+        CommandComplete(command: ByteStr<'a>) = b'C', answers::read_command, put_answer(&OutboundCommandComplete { command });
         /// Data of a COPY.
-        CopyData(data: ByteStr<'a>) = b'd', read_data, put_answer(&CopyDataText(data));
+        CopyData(data: ByteStr<'a>) = b'd', read_data, put_answer(&OutboundCopyData(data));
         /// The end of the data of a COPY.
         CopyDone = b'c';
         /// The server waits for the data of a COPY.
@@ -119,7 +119,7 @@ messages! {
         /// A COPY both ways begins, as in replication.
         CopyBothResponse(copy: CopyResponse<'a>) = b'W', CopyResponse::read, copy::write(CopyDirection::Both, copy);
         /// A row of a result.
-        DataRow(values: List<'a, Value<'a>>) = b'D', crate::row::read, put_answer(&DataRowText { values });
+        DataRow(values: List<'a, Value<'a>>) = b'D', crate::row::read, put_answer(&OutboundDataRow { values });
         /// A query without a statement succeeded.
         EmptyQueryResponse = b'I';
         /// An error.
@@ -135,7 +135,7 @@ messages! {
         /// A notification from another session.
         NotificationResponse(notification: NotificationResponse<'a>) = b'A', NotificationResponse::read, NotificationResponse::write;
         /// The object ids of the types of a statement's parameters.
-        ParameterDescription(types: List<'a, Oid>) = b't', columns::read_types, put_answer(&ParameterDescriptionText { types });
+        ParameterDescription(types: List<'a, Oid>) = b't', columns::read_types, put_answer(&OutboundParameterDescription { types });
         /// A setting of the server and its value.
         ParameterStatus(status: ParameterStatus<'a>) = b'S', ParameterStatus::read, ParameterStatus::write;
         /// A Parse succeeded.

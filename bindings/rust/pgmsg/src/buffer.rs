@@ -3,10 +3,10 @@
 use crate::error::Refusal;
 use alloc::vec::Vec;
 use pgmsg_core::pg_base::io::part::Part;
-use pgmsg_core::pg_base::io::{checked_len, Sink, Tagged, Text, HEADER};
+use pgmsg_core::pg_base::io::{checked_len, Encodable, Sink, Tagged, HEADER};
 use pgmsg_core::pg_base::ProtocolFault;
 use pgmsg_core::pg_send::message::{BodyOf, FrontendMessage};
-use pgmsg_core::pg_server::backend::BackendText;
+use pgmsg_core::pg_server::backend::OutboundMessage;
 
 /// The least room that is added to a vector at once, so that small messages need few allocations.
 const LEAST_GROWTH: usize = 1 << 10;
@@ -145,7 +145,7 @@ impl<B: Buffer> Sink for Out<'_, B> {
 
 /// Appends a text of so many bytes.
 #[inline]
-pub(crate) fn put_text<T: Text, B: Buffer>(
+pub(crate) fn put_text<T: Encodable, B: Buffer>(
     text: &T,
     length: usize,
     out: &mut B,
@@ -180,7 +180,7 @@ pub(crate) fn put_message<M: FrontendMessage, B: Buffer>(
 
 /// Appends a message of the core's, as a server writes it.
 #[inline]
-pub(crate) fn put_answer<M: BackendText, B: Buffer>(
+pub(crate) fn put_answer<M: OutboundMessage, B: Buffer>(
     message: &M,
     out: &mut B,
 ) -> Result<(), Refusal> {

@@ -5,7 +5,7 @@ use alloc::string::String;
 use core::fmt;
 use core::ops::Deref;
 use core::str::{self, Utf8Error};
-use pgmsg_core::pg_server::backend::{AsItem, Mechanism};
+use pgmsg_core::pg_server::backend::{AsOutboundItem, Mechanism};
 
 /// Bytes that are a text mostly, in the encoding of the client or the server: they need not be UTF-8.
 ///
@@ -80,14 +80,14 @@ impl<'a> From<ByteStr<'a>> for &'a [u8] {
 }
 
 /// As a name in a list.
-impl<'a> AsItem<&'a [u8]> for ByteStr<'a> {
+impl<'a> AsOutboundItem<&'a [u8]> for ByteStr<'a> {
     fn as_item(&self) -> &'a [u8] {
         self.0
     }
 }
 
 /// As a mechanism of authentication.
-impl<'a> AsItem<Mechanism<'a>> for ByteStr<'a> {
+impl<'a> AsOutboundItem<Mechanism<'a>> for ByteStr<'a> {
     fn as_item(&self) -> Mechanism<'a> {
         Mechanism(self.0)
     }

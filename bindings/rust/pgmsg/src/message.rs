@@ -3,7 +3,7 @@
 use crate::body::checked;
 use crate::buffer::{put_sound, Buffer};
 use crate::error::{Fault, Refusal};
-use pgmsg_core::pg_base::io::part::Nothing;
+use pgmsg_core::pg_base::io::part::NoBytes;
 use pgmsg_core::pg_server::frontend::read_empty;
 
 /// Reads the body of a message that has none.
@@ -15,7 +15,7 @@ pub(crate) fn read_nothing(body: &[u8]) -> Result<(), Fault> {
 /// Appends a message without a body.
 #[inline]
 pub(crate) fn put_nothing<B: Buffer>(tag: u8, out: &mut B) -> Result<(), Refusal> {
-    put_sound(tag, Nothing, Ok(()), out)
+    put_sound(tag, NoBytes, Ok(()), out)
 }
 
 /// Makes the enum of a side's messages by a table: for each its parts, its tag, the function that reads its body, and

@@ -4,7 +4,7 @@ use crate::byte_str::ByteStr;
 use core::fmt;
 use pgmsg_core::pg_send::message::counted::Code;
 use pgmsg_core::pg_send::message::values::AsValue;
-use pgmsg_core::pg_server::backend::AsItem;
+use pgmsg_core::pg_server::backend::AsOutboundItem;
 
 /// A value of a parameter, an argument or a row: bytes, which it borrows, or NULL.
 ///
@@ -44,7 +44,7 @@ impl AsValue for Value<'_> {
 }
 
 /// As a server writes it.
-impl<'a> AsItem<Option<&'a [u8]>> for Value<'a> {
+impl<'a> AsOutboundItem<Option<&'a [u8]>> for Value<'a> {
     #[inline(always)]
     fn as_item(&self) -> Option<&'a [u8]> {
         self.0

@@ -22,7 +22,7 @@ pub use encode::ProtocolEncode;
 pub use id::{DisplayId, PortalId, StatementId};
 pub use name::{Ended, Name};
 pub use numbers::{bytes_at, i8_at, i16_at, i32_at, i64_at, u8_at, u16_at, u32_at, u64_at};
-pub use sink::{Cursor, Sink, Text, write_text};
+pub use sink::{Cursor, Encodable, Sink, write_text};
 pub use tagged::{HEADER, Tagged, checked_len};
 
 /// The greatest length that a message's length field can say, in bytes: it is a signed number of

@@ -9,7 +9,7 @@ ghost use Rattle.pg_base.specs.Part.{PartLaw, saturated};
 ghost use Rattle.pg_base.specs.Sink.{HasRoom};
 
 use crate::error::ProtocolFault;
-use crate::io::{Sink, Text};
+use crate::io::{Encodable, Sink};
 
 /// A part of a body.
 pub trait Part: Copy {
@@ -61,7 +61,7 @@ impl<A: Part, B: Part> Part for Then<A, B> {
     }
 }
 
-impl<A: Text, B: Text> Text for Then<A, B> {
+impl<A: Encodable, B: Encodable> Encodable for Then<A, B> {
     ghost text = { λ both. A.text both.0 ++ B.text both.1 };
 
     ghost can = { λ both. A.can both.0 × B.can both.1 };
@@ -265,9 +265,9 @@ impl Part for Slice<'_> {
 
 /// No bytes.
 #[derive(Clone, Copy)]
-pub struct Nothing;
+pub struct NoBytes;
 
-impl Part for Nothing {
+impl Part for NoBytes {
     ghost use Rattle.std.specs.Prelude.{[]};
     ghost use Rattle.pg_base.specs.Part.{bytes};
 

@@ -5,7 +5,7 @@ ghost use Rattle.std.specs.Borrow.{GName};
 ghost use Rattle.pg_base.specs.Cutting.{max_length};
 ghost use Rattle.pg_base.specs.Numbers.{be16, be32, be64};
 ghost use Rattle.pg_base.specs.Sink.{IsGiven, HasRoom};
-ghost use Rattle.pg_base.specs.Text.{ended};
+ghost use Rattle.pg_base.specs.Ended.{ended};
 
 use crate::io::copy_bytes::{copy_bytes, copy_number};
 
@@ -186,8 +186,8 @@ impl Sink for Cursor<'_> {
     }
 }
 
-/// A text of the protocol, which is written as a whole.
-pub trait Text {
+/// What is written as a whole: a message, or a name with its NUL.
+pub trait Encodable {
     /// Its bytes.
     ghost text: { Self → List ℕ };
 
@@ -209,7 +209,7 @@ pub trait Text {
 
 /// Writes a text of `len` bytes at the front of `out` where it is that long; else `out` stays.
 #[inline(always)]
-pub fn write_text<T: Text>(text: &T, len: usize, out: &mut [u8])
+pub fn write_text<T: Encodable>(text: &T, len: usize, out: &mut [u8])
     requires can { T.can text.now }
     requires len { len ≡ length (T.text text.now) }
     ensures given { IsGiven (T.text text.now) out.old out.new }
@@ -222,7 +222,7 @@ pub fn write_text<T: Text>(text: &T, len: usize, out: &mut [u8])
 
 // Writes a text over bytes of just its length.
 #[inline(always)]
-fn fill<T: Text>(text: &T, out: &mut [u8])
+fn fill<T: Encodable>(text: &T, out: &mut [u8])
     requires can { T.can text.now }
     requires room { length out.old ≡ length (T.text text.now) }
     ensures written { out.new ≡ T.text text.now }

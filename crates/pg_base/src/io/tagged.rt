@@ -5,7 +5,7 @@ ghost use Rattle.pg_base.specs.Tagged.{fault_of, checked_len};
 
 use crate::error::ProtocolFault;
 use crate::io::part::Part;
-use crate::io::{MAX_BODY, Sink, Text};
+use crate::io::{Encodable, MAX_BODY, Sink};
 
 /// The bytes before a body: the tag and the length.
 pub const HEADER: usize = 5;
@@ -33,7 +33,7 @@ pub struct Tagged<'a, P> {
     pub len: usize,
 }
 
-impl<P: Part> Text for Tagged<'_, P> {
+impl<P: Part> Encodable for Tagged<'_, P> {
     ghost use Rattle.pg_base.specs.Cutting.{frame};
     ghost use Rattle.pg_base.specs.Tagged.{IsMeasured};
 

@@ -11,7 +11,7 @@ use Rattle.pg_format.specs.Logical as page
 use Rattle.pg_format.specs.Logical.{Datum, datum, column, key, whole, old_letter}
 use Rattle.pg_format.specs.Received.{max_body}
 use Rattle.pg_replication.specs.Logical.{LogicalAnswer, ReadsLogical, streamed_after}
-use Rattle.pg_replication.specs.Logical.Columns.{columns_shown}
+use Rattle.pg_replication.specs.Logical.TableColumns.{columns_shown}
 use Rattle.pg_replication.specs.Logical.Old.{shown_old}
 use Rattle.pg_replication.specs.Logical.Relations.{relation_ids}
 use Rattle.pg_replication.specs.Logical.Tuple.{datums}

@@ -10,8 +10,8 @@ use Rattle.pg_server.specs.declared.backend.copy.CopyDirection.{CopyDirection}
 use Rattle.pg_server.specs.declared.backend.copy.CopyDirection.TheVariants as directions
 use Rattle.pg_server.specs.declared.backend.notice.NoticeKind.{NoticeKind}
 use Rattle.pg_server.specs.declared.backend.notice.NoticeKind.TheVariants as notices
-use Rattle.pg_server.specs.declared.backend.ready_for_query.ReadyForQueryText.{ReadyForQueryText}
-use Rattle.pg_server.specs.declared.backend.ready_for_query.ReadyForQueryText.TheVariants as statuses
+use Rattle.pg_server.specs.declared.backend.ready_for_query.OutboundReadyForQuery.{OutboundReadyForQuery}
+use Rattle.pg_server.specs.declared.backend.ready_for_query.OutboundReadyForQuery.TheVariants as statuses
 use Rattle.pg_c.specs.Server.{PutsByLetter}
 
 -- the first of some kinds that has the letter
@@ -31,13 +31,13 @@ ways = directions.In ∷ directions.Out ∷ directions.Both ∷ []
 abbrev pub direction_of : ℕ → Option CopyDirection
 direction_of = kind_of direction_tag ways
 
-abbrev pub ready_letter : ReadyForQueryText → ℕ
+abbrev pub ready_letter : OutboundReadyForQuery → ℕ
 ready_letter ready = status_letter (status_of ready)
 
-abbrev pub readiness : List ReadyForQueryText
+abbrev pub readiness : List OutboundReadyForQuery
 readiness = statuses.Idle ∷ statuses.Transaction ∷ statuses.Error ∷ []
 
-abbrev pub ready_of : ℕ → Option ReadyForQueryText
+abbrev pub ready_of : ℕ → Option OutboundReadyForQuery
 ready_of = kind_of ready_letter readiness
 
 -- that the server is ready is put with the status of a letter; a letter of no status is refused

@@ -5,8 +5,8 @@ use Rattle.pg_format.specs.Messages as page
 use Rattle.pg_format.specs.Notices.{Field}
 use Rattle.pg_server.specs.Backend.Notice as notice
 use Rattle.pg_server.specs.Backend.RowDescription as description
-use Rattle.pg_server.specs.declared.backend.notice.NoticeFieldText.{NoticeFieldText}
-use Rattle.pg_server.specs.declared.backend.row_description.ColumnText.{ColumnText}
+use Rattle.pg_server.specs.declared.backend.notice.OutboundNoticeField.{OutboundNoticeField}
+use Rattle.pg_server.specs.declared.backend.row_description.OutboundColumn.{OutboundColumn}
 use Rattle.pg_c.specs.declared.put.prepared.PgmsgValue.{PgmsgValue}
 use Rattle.pg_c.specs.declared.server.authentication.PgmsgBytes.{PgmsgBytes}
 use Rattle.pg_c.specs.declared.server.notices.PgmsgFieldText.{PgmsgFieldText}
@@ -19,13 +19,13 @@ bytes_of text = text.bytes.now
 abbrev pub borrowed : PgmsgValue → Option (Bor (List ℕ))
 borrowed value = if value.is_null then None else Some value.bytes
 
-abbrev pub field_text_of : PgmsgFieldText → NoticeFieldText
+abbrev pub field_text_of : PgmsgFieldText → OutboundNoticeField
 field_text_of field = record { letter = field.letter; text = field.text }
 
 abbrev pub field_of : PgmsgFieldText → Field
 field_of field = notice.field_of (field_text_of field)
 
-abbrev pub column_text_of : PgmsgColumnText → ColumnText
+abbrev pub column_text_of : PgmsgColumnText → OutboundColumn
 column_text_of column = record {
   name = column.name;
   table = record { 0 = column.table };

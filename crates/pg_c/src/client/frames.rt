@@ -99,7 +99,7 @@ pub extern "C" fn pgmsg_next_frontend_frame(
 {
     match next_frontend_frame(Expects::Tagged, 0, stream) {
         Ok(Some(whole)) => {
-            *frame = place_of(stream, &whole);
+            *frame = place_of_client_frame(stream, &whole);
             1
         }
         Ok(None) => {
@@ -114,7 +114,7 @@ pub extern "C" fn pgmsg_next_frontend_frame(
 }
 
 // Where the message at the front is.
-fn place_of(stream: &[u8], frame: &FrontendFrame<'_>) -> PgmsgFrame
+fn place_of_client_frame(stream: &[u8], frame: &FrontendFrame<'_>) -> PgmsgFrame
     requires { HasTaggedFrame stream.now frame.now }
     ensures { IsWhole stream.now result }
 {

@@ -8,7 +8,7 @@ ghost use Rattle.pg_c.specs.Client.SaslInitial.{ReadsSaslInitial};
 
 use crate::place::PgmsgSpan;
 use crate::read::check_body;
-use crate::read::row::{PgmsgCell, place_of};
+use crate::read::row::{PgmsgCell, place_of_cell};
 use crate::refusal::{PgmsgFault, report, report_client};
 use pg_server::frontend::SaslInitialRef;
 use std::alloc::Global;
@@ -47,7 +47,7 @@ pub extern "C" fn pgmsg_read_sasl_initial(
             };
             *initial = PgmsgSaslInitial {
                 mechanism,
-                response: place_of(mechanism.len + 1, read.response, body.len()),
+                response: place_of_cell(mechanism.len + 1, read.response, body.len()),
             };
             0
         }

@@ -11,7 +11,7 @@ ghost use Rattle.pg_c.specs.Client.Values.{AllAfter, SomeAfter, FaultAfter};
 ghost use Rattle.pg_c.specs.Place.{StandsIn};
 
 use crate::place::{PgmsgList, PgmsgSpan};
-use crate::read::row::{PgmsgCell, place_of, placed};
+use crate::read::row::{PgmsgCell, place_of_cell, placed};
 use byteorder::{BigEndian, ByteOrder};
 use pg_base::io::MAX_BODY;
 use pg_server::frontend::FrontendFault;
@@ -173,7 +173,7 @@ fn give_rest(
     for next in index..count {
         let (value, end) = value_at(body, at)?;
         if next < values.len() {
-            values[next] = place_of(at, value, end);
+            values[next] = place_of_cell(at, value, end);
         }
         at = end;
     }

@@ -21,7 +21,7 @@ ghost use Rattle.pg_c.specs.Put.{IsSound, IsDue, IsWritten, PutsLaw};
 
 use crate::refusal::number_of;
 use pg_base::Error;
-use pg_base::io::{Text, write_text};
+use pg_base::io::{Encodable, write_text};
 use pg_send::message::{FrontendMessage, write_frame};
 
 /// The bytes before a body: the tag and the length.
@@ -64,7 +64,7 @@ fn sound_len<F: FrontendMessage>(message: &F) -> Result<usize, Error>
 
 /// Writes a text of `len` bytes, and gives its length.
 #[inline]
-pub(crate) fn put_text<T: Text>(text: &T, len: usize, out: &mut [u8]) -> isize
+pub(crate) fn put_text<T: Encodable>(text: &T, len: usize, out: &mut [u8]) -> isize
     requires can { T.can text.now }
     requires len { len ≡ length (T.text text.now) }
     requires small { len < 9223372036854775808 }

@@ -5,16 +5,16 @@ ghost use Rattle.std.specs.Str.Lossy.{utf8_valid_len};
 ghost use Rattle.pg_base.specs.Id.{name, named, portal_prefix, statement_prefix};
 ghost use Rattle.pg_base.specs.Naming.{bytes_of};
 ghost use Rattle.pg_base.specs.Sink.{IsGiven};
-ghost use Rattle.pg_base.specs.Text.{ended};
+ghost use Rattle.pg_base.specs.Ended.{ended};
 
-use pg_base::io::{Name, PortalId, Sink, StatementId, Text, write_text};
+use pg_base::io::{Encodable, Name, PortalId, Sink, StatementId, write_text};
 use std::str;
 
 // A name and the NUL that ends it.
 #[derive(Clone, Copy)]
-struct NameText<N>(N);
+struct EndedName<N>(N);
 
-impl<N: Name> Text for NameText<N> {
+impl<N: Name> Encodable for EndedName<N> {
     ghost text = { λ it. ended (bytes_of (N.naming it.0)) };
 
     ghost can = { λ _. Unit };
@@ -36,7 +36,7 @@ pub extern "C" fn pgmsg_put_statement_name(number: u32, out: &mut [u8]) -> usize
 {
     let id = StatementId::from_number(number);
     let len = id.name_len();
-    write_text(&NameText(id), len, out);
+    write_text(&EndedName(id), len, out);
     len - 1
 }
 
@@ -49,7 +49,7 @@ pub extern "C" fn pgmsg_put_portal_name(number: u32, out: &mut [u8]) -> usize
 {
     let id = PortalId::from_number(number);
     let len = id.name_len();
-    write_text(&NameText(id), len, out);
+    write_text(&EndedName(id), len, out);
     len - 1
 }
 

@@ -7,7 +7,7 @@ ghost use Rattle.pg_c.specs.Put.NoBody.{has_no_body, unknown_unless_empty};
 
 use crate::put::{HEADER, put_text};
 use crate::refusal::UNKNOWN_MESSAGE_TYPE;
-use pg_base::io::{Sink, Text};
+use pg_base::io::{Encodable, Sink};
 
 // The tag of a message that has nothing else.
 #[derive(Clone, Copy)]
@@ -15,7 +15,7 @@ struct NoBody {
     tag: u8,
 }
 
-impl Text for NoBody {
+impl Encodable for NoBody {
     ghost text = { λ message. frame message.tag [] };
 
     ghost can = { λ _. Unit };

@@ -74,7 +74,7 @@ fn columns_of(body: &[u8], columns: &mut [PgmsgColumn]) -> Result<usize, Protoco
     for index in 0..count {
         let (column, end) = raw_column_at(body, at)?;
         if index < columns.len() {
-            columns[index] = place_of(at, &column);
+            columns[index] = place_of_column(at, &column);
         }
         at = end;
     }
@@ -82,7 +82,7 @@ fn columns_of(body: &[u8], columns: &mut [PgmsgColumn]) -> Result<usize, Protoco
 }
 
 // The place of the column that begins at an offset.
-fn place_of(at: usize, field: &RawFieldRef<'_>) -> PgmsgColumn
+fn place_of_column(at: usize, field: &RawFieldRef<'_>) -> PgmsgColumn
     ensures { (end : ℕ) → SaysItem raw_column column_in at (column_of_raw field.now) end result }
 {
     PgmsgColumn {

@@ -46,7 +46,7 @@ pub extern "C" fn pgmsg_next_frame(
 {
     match next_raw_frame(stream) {
         Ok(Some(whole)) => {
-            *frame = place_of(&whole);
+            *frame = place_of_frame(&whole);
             1
         }
         Ok(None) => {
@@ -124,7 +124,7 @@ fn placed(stream: &[u8], at: usize, frame: &RawFrame<'_>) -> PgmsgFrame
 }
 
 // Where the message at the front is.
-fn place_of(frame: &RawFrame<'_>) -> PgmsgFrame
+fn place_of_frame(frame: &RawFrame<'_>) -> PgmsgFrame
     ensures { (stream : List ℕ) → HasFrame stream frame.now → IsWhole stream result }
 {
     PgmsgFrame {

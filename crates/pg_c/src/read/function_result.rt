@@ -8,7 +8,7 @@ ghost use Rattle.pg_c.specs.Read.{IsBodyFault, RefusesBody};
 ghost use Rattle.pg_c.specs.Read.FunctionResult.{ReadsResult};
 
 use crate::read::check_body;
-use crate::read::row::{PgmsgCell, place_of};
+use crate::read::row::{PgmsgCell, place_of_cell};
 use crate::refusal::{PgmsgFault, report};
 use pg_base::ProtocolFault;
 use pg_receive::message::cell_at;
@@ -46,5 +46,5 @@ fn result_of(body: &[u8]) -> Result<PgmsgCell, ProtocolFault>
 {
     check_body(body)?;
     let (value, end) = cell_at(body, 0)?;
-    Ok(place_of(0, value, end))
+    Ok(place_of_cell(0, value, end))
 }

@@ -180,7 +180,7 @@ fn rest_of(
     for index in first..count {
         let (cell, end) = cell_at(body, at)?;
         if index < cells.len() {
-            cells[index] = place_of(at, cell, end);
+            cells[index] = place_of_cell(at, cell, end);
         }
         at = end;
     }
@@ -188,7 +188,7 @@ fn rest_of(
 }
 
 /// The place of the cell from one offset to another.
-pub(crate) fn place_of(at: usize, value: Option<&[u8]>, end: usize) -> PgmsgCell
+pub(crate) fn place_of_cell(at: usize, value: Option<&[u8]>, end: usize) -> PgmsgCell
     requires wide { at + 4 ≤ end }
     requires short { end ≤ MAX_BODY }
     ensures { SaysItem cell cell_in at (option_copied value.entry) end result }

@@ -8,7 +8,7 @@ ghost use Rattle.pg_c.specs.Server.Messages.{sasl_offer_of};
 
 use crate::refusal::UNKNOWN_AUTHENTICATION;
 use crate::server::put;
-use pg_server::backend::{AsItem, AuthenticationText, Mechanism, SaslText};
+use pg_server::backend::{AsOutboundItem, Mechanism, OutboundAuthentication, OutboundSasl};
 
 // The numbers of methods.
 const OK: u32 = 0;
@@ -38,7 +38,7 @@ pub struct PgmsgBytes<'a> {
     pub bytes: &'a [u8],
 }
 
-impl<'a> AsItem<&'a [u8]> for PgmsgBytes<'a> {
+impl<'a> AsOutboundItem<&'a [u8]> for PgmsgBytes<'a> {
     ghost item = { λ text. text.bytes };
 
     #[inline(always)]
@@ -47,7 +47,7 @@ impl<'a> AsItem<&'a [u8]> for PgmsgBytes<'a> {
     }
 }
 
-impl<'a> AsItem<Mechanism<'a>> for PgmsgBytes<'a> {
+impl<'a> AsOutboundItem<Mechanism<'a>> for PgmsgBytes<'a> {
     ghost use Rattle.pg_server.specs.declared.backend.sasl.Mechanism.{Mechanism};
 
     ghost item = { λ text. record { 0 = text.bytes } };
@@ -76,20 +76,20 @@ pub extern "C" fn pgmsg_put_authentication(method: u32, content: &[u8], out: &mu
 }
 
 // The request by a method, where what follows is as long as it has to be.
-fn request_of(method: u32, content: &[u8]) -> Option<AuthenticationText<'_>>
+fn request_of(method: u32, content: &[u8]) -> Option<OutboundAuthentication<'_>>
     ensures { option_map authentication.request_of result ≡ requested method content.now }
 {
     match (method, content) {
-        (OK, []) => Some(AuthenticationText::Ok),
-        (KERBEROS_V5, []) => Some(AuthenticationText::KerberosV5),
-        (CLEARTEXT_PASSWORD, []) => Some(AuthenticationText::CleartextPassword),
-        (MD5_PASSWORD, &[a, b, c, d]) => Some(AuthenticationText::Md5Password([a, b, c, d])),
-        (SCM_CREDENTIAL, []) => Some(AuthenticationText::ScmCredential),
-        (GSS, []) => Some(AuthenticationText::Gss),
-        (GSS_CONTINUE, _) => Some(AuthenticationText::GssContinue(content)),
-        (SSPI, []) => Some(AuthenticationText::Sspi),
-        (SASL_CONTINUE, _) => Some(AuthenticationText::SaslContinue(content)),
-        (SASL_FINAL, _) => Some(AuthenticationText::SaslFinal(content)),
+        (OK, []) => Some(OutboundAuthentication::Ok),
+        (KERBEROS_V5, []) => Some(OutboundAuthentication::KerberosV5),
+        (CLEARTEXT_PASSWORD, []) => Some(OutboundAuthentication::CleartextPassword),
+        (MD5_PASSWORD, &[a, b, c, d]) => Some(OutboundAuthentication::Md5Password([a, b, c, d])),
+        (SCM_CREDENTIAL, []) => Some(OutboundAuthentication::ScmCredential),
+        (GSS, []) => Some(OutboundAuthentication::Gss),
+        (GSS_CONTINUE, _) => Some(OutboundAuthentication::GssContinue(content)),
+        (SSPI, []) => Some(OutboundAuthentication::Sspi),
+        (SASL_CONTINUE, _) => Some(OutboundAuthentication::SaslContinue(content)),
+        (SASL_FINAL, _) => Some(OutboundAuthentication::SaslFinal(content)),
         _ => None,
     }
 }
@@ -103,5 +103,5 @@ pub extern "C" fn pgmsg_put_authentication_sasl(
 ) -> isize
     ensures { PutsServerMessage (sasl_offer_of mechanisms.now) out.old out.new result }
 {
-    put(&SaslText { mechanisms }, out)
+    put(&OutboundSasl { mechanisms }, out)
 }

@@ -11,11 +11,11 @@ pub mod session;
 ghost use Rattle.pg_c.specs.Server.{PutsServerMessage};
 
 use crate::refusal::number_of_fault;
-use pg_server::backend::{BackendText, write};
+use pg_server::backend::{OutboundMessage, write};
 
 /// Writes a message.
 #[inline]
-pub(crate) fn put<M: BackendText>(message: &M, out: &mut [u8]) -> isize
+pub(crate) fn put<M: OutboundMessage>(message: &M, out: &mut [u8]) -> isize
     ensures { PutsServerMessage (M.message message.now) out.old out.new result }
 {
     match write(message, out) {

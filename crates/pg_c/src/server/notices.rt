@@ -9,7 +9,9 @@ ghost use Rattle.pg_c.specs.Server.Messages.{notice_of_kind, PutsNotification};
 
 use crate::refusal::UNKNOWN_MESSAGE_TYPE;
 use crate::server::put;
-use pg_server::backend::{AsItem, NoticeFieldText, NoticeKind, NoticeText, NotificationText};
+use pg_server::backend::{
+    AsOutboundItem, NoticeKind, OutboundNotice, OutboundNoticeField, OutboundNotification,
+};
 
 /// A field of an error or a notice that is written, by the letter of what it says.
 #[repr(C)]
@@ -19,12 +21,12 @@ pub struct PgmsgFieldText<'a> {
     pub text: &'a [u8],
 }
 
-impl<'a> AsItem<NoticeFieldText<'a>> for PgmsgFieldText<'a> {
+impl<'a> AsOutboundItem<OutboundNoticeField<'a>> for PgmsgFieldText<'a> {
     ghost item = { field_text_of };
 
     #[inline(always)]
-    fn as_item(&self) -> NoticeFieldText<'a> {
-        NoticeFieldText {
+    fn as_item(&self) -> OutboundNoticeField<'a> {
+        OutboundNoticeField {
             letter: self.letter,
             text: self.text,
         }
@@ -40,7 +42,7 @@ pub extern "C" fn pgmsg_put_notice(tag: u8, fields: &[PgmsgFieldText<'_>], out: 
     ensures { PutsByTag notice_tag (notice_of_kind fields.now) tag out.old out.new result }
 {
     match kind_of(tag) {
-        Some(kind) => put(&NoticeText { kind, fields }, out),
+        Some(kind) => put(&OutboundNotice { kind, fields }, out),
         None => UNKNOWN_MESSAGE_TYPE as isize,
     }
 }
@@ -66,7 +68,7 @@ pub extern "C" fn pgmsg_put_notification(
 ) -> isize
     ensures { PutsNotification process_id channel.now payload.now out.old out.new result }
 {
-    let notification = NotificationText {
+    let notification = OutboundNotification {
         process_id,
         channel,
         payload,

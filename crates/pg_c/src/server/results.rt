@@ -11,7 +11,8 @@ use crate::put::prepared::PgmsgValue;
 use crate::refusal::UNKNOWN_MESSAGE_TYPE;
 use crate::server::put;
 use pg_server::backend::{
-    AsItem, CommandCompleteText, CopyDirection, CopyResponseText, FunctionCallResponseText, RawText,
+    AsOutboundItem, CopyDirection, OutboundCommandComplete, OutboundCopyResponse,
+    OutboundFunctionCallResponse, OutboundRaw,
 };
 
 /// A CommandComplete: a command has ended. `command` is its tag, as `INSERT 0 1`; a NUL in it is refused.
@@ -19,7 +20,7 @@ use pg_server::backend::{
 pub extern "C" fn pgmsg_put_command_complete(command: &[u8], out: &mut [u8]) -> isize
     ensures { PutsServerMessage (messages.CommandComplete command.now) out.old out.new result }
 {
-    put(&CommandCompleteText { command }, out)
+    put(&OutboundCommandComplete { command }, out)
 }
 
 /// Where the data of a COPY goes: to the server by a CopyInResponse, whose tag is `G`, from it by a
@@ -37,7 +38,7 @@ pub extern "C" fn pgmsg_put_copy_response(
 {
     match direction_of(tag) {
         Some(direction) => {
-            let response = CopyResponseText {
+            let response = OutboundCopyResponse {
                 direction,
                 format,
                 format_codes: codes,
@@ -70,7 +71,7 @@ pub extern "C" fn pgmsg_put_function_result(value: &[u8], is_null: bool, out: &m
         is_null,
     }
     .as_item();
-    put(&FunctionCallResponseText { value }, out)
+    put(&OutboundFunctionCallResponse { value }, out)
 }
 
 /// A message with any tag and any body: what only passes through, or what this library doesn't know.
@@ -78,5 +79,5 @@ pub extern "C" fn pgmsg_put_function_result(value: &[u8], is_null: bool, out: &m
 pub extern "C" fn pgmsg_put_frame(tag: u8, body: &[u8], out: &mut [u8]) -> isize
     ensures { PutsServerMessage (messages.Raw tag body.now) out.old out.new result }
 {
-    put(&RawText { tag, body }, out)
+    put(&OutboundRaw { tag, body }, out)
 }

@@ -9,7 +9,8 @@ use crate::put::prepared::PgmsgValue;
 use crate::server::put;
 use pg_base::io::Oid;
 use pg_server::backend::{
-    AsItem, ColumnText, DataRowText, ParameterDescriptionText, RowDescriptionText,
+    AsOutboundItem, OutboundColumn, OutboundDataRow, OutboundParameterDescription,
+    OutboundRowDescription,
 };
 
 /// A column of a result that is written. `table` and `attribute` say which column of a table it is, and
@@ -27,12 +28,12 @@ pub struct PgmsgColumnText<'a> {
     pub format: i16,
 }
 
-impl<'a> AsItem<ColumnText<'a>> for PgmsgColumnText<'a> {
+impl<'a> AsOutboundItem<OutboundColumn<'a>> for PgmsgColumnText<'a> {
     ghost item = { column_text_of };
 
     #[inline(always)]
-    fn as_item(&self) -> ColumnText<'a> {
-        ColumnText {
+    fn as_item(&self) -> OutboundColumn<'a> {
+        OutboundColumn {
             name: self.name,
             table: Oid(self.table),
             attribute: self.attribute,
@@ -44,7 +45,7 @@ impl<'a> AsItem<ColumnText<'a>> for PgmsgColumnText<'a> {
     }
 }
 
-impl<'a> AsItem<Option<&'a [u8]>> for PgmsgValue<'a> {
+impl<'a> AsOutboundItem<Option<&'a [u8]>> for PgmsgValue<'a> {
     ghost item = { borrowed };
 
     #[inline(always)]
@@ -59,7 +60,7 @@ impl<'a> AsItem<Option<&'a [u8]>> for PgmsgValue<'a> {
 pub extern "C" fn pgmsg_put_columns(columns: &[PgmsgColumnText<'_>], out: &mut [u8]) -> isize
     ensures { PutsServerMessage (row_description_of columns.now) out.old out.new result }
 {
-    put(&RowDescriptionText { columns }, out)
+    put(&OutboundRowDescription { columns }, out)
 }
 
 /// The values of a row, each in the format that was asked for, or NULL: at most 65535, else it is refused with
@@ -69,7 +70,7 @@ pub extern "C" fn pgmsg_put_columns(columns: &[PgmsgColumnText<'_>], out: &mut [
 pub extern "C" fn pgmsg_put_row(values: &[PgmsgValue<'_>], out: &mut [u8]) -> isize
     ensures { PutsServerMessage (data_row_of values.now) out.old out.new result }
 {
-    put(&DataRowText { values }, out)
+    put(&OutboundDataRow { values }, out)
 }
 
 /// The types of the parameters of a statement: at most 65535, else it is refused with PGMSG_TOO_MANY.
@@ -77,5 +78,5 @@ pub extern "C" fn pgmsg_put_row(values: &[PgmsgValue<'_>], out: &mut [u8]) -> is
 pub extern "C" fn pgmsg_put_parameter_types(types: &[u32], out: &mut [u8]) -> isize
     ensures { PutsServerMessage (messages.ParameterDescription types.now) out.old out.new result }
 {
-    put(&ParameterDescriptionText { types }, out)
+    put(&OutboundParameterDescription { types }, out)
 }

@@ -10,7 +10,8 @@ use crate::refusal::UNKNOWN_STATUS;
 use crate::server::authentication::PgmsgBytes;
 use crate::server::put;
 use pg_server::backend::{
-    BackendKeyDataText, NegotiateProtocolVersionText, ParameterStatusText, ReadyForQueryText,
+    OutboundBackendKeyData, OutboundNegotiateProtocolVersion, OutboundParameterStatus,
+    OutboundReadyForQuery,
 };
 
 /// The newest minor version of the protocol's version 3 that the server speaks, and the names of the options that
@@ -23,7 +24,7 @@ pub extern "C" fn pgmsg_put_negotiate_version(
 ) -> isize
     ensures { PutsServerMessage (negotiation_of minor options.now) out.old out.new result }
 {
-    put(&NegotiateProtocolVersionText { minor, options }, out)
+    put(&OutboundNegotiateProtocolVersion { minor, options }, out)
 }
 
 /// The process that serves the client, and the secret key that a request to cancel its work has to name
@@ -37,7 +38,7 @@ pub extern "C" fn pgmsg_put_backend_key_data(
 ) -> isize
     ensures { PutsServerMessage (key_data_of process_id secret_key.now) out.old out.new result }
 {
-    let key = BackendKeyDataText {
+    let key = OutboundBackendKeyData {
         process_id,
         secret_key,
     };
@@ -50,7 +51,7 @@ pub extern "C" fn pgmsg_put_backend_key_data(
 pub extern "C" fn pgmsg_put_parameter_status(name: &[u8], value: &[u8], out: &mut [u8]) -> isize
     ensures { PutsServerMessage (parameter_status_of name.now value.now) out.old out.new result }
 {
-    put(&ParameterStatusText { name, value }, out)
+    put(&OutboundParameterStatus { name, value }, out)
 }
 
 /// The server is ready for the next query. `status` is `I` where no transaction is open, `T` where one
@@ -66,13 +67,13 @@ pub extern "C" fn pgmsg_put_ready(status: u8, out: &mut [u8]) -> isize
     }
 }
 
-fn ready_of(status: u8) -> Option<ReadyForQueryText>
+fn ready_of(status: u8) -> Option<OutboundReadyForQuery>
     ensures { result ≡ ready_of status }
 {
     match status {
-        b'I' => Some(ReadyForQueryText::Idle),
-        b'T' => Some(ReadyForQueryText::Transaction),
-        b'E' => Some(ReadyForQueryText::Error),
+        b'I' => Some(OutboundReadyForQuery::Idle),
+        b'T' => Some(OutboundReadyForQuery::Transaction),
+        b'E' => Some(OutboundReadyForQuery::Error),
         _ => None,
     }
 }

@@ -4,7 +4,7 @@ use Rattle.std.specs.Int.{bytes_high_first}
 use Rattle.pg_base.specs.declared.error.ProtocolFault.{ProtocolFault}
 use Rattle.pg_base.specs.declared.error.ProtocolFault.TheVariants.{Short, MissingNul}
 use Rattle.pg_base.specs.Reading.{Number, Signed, Text, HoldsNo}
-use Rattle.pg_base.specs.Text.{ended}
+use Rattle.pg_base.specs.Ended.{ended}
 use Rattle.pg_format.specs.Format.{Format}
 
 -- where the last bytes of a body of so many begin

@@ -23,9 +23,9 @@ pub trait Keeper<'a, I: Item<'a>> {
 
 /// Keeps nothing, for who wants the end alone.
 #[derive(Drop)]
-pub struct Nothing;
+pub struct Discard;
 
-impl<'a, I: Item<'a>> Keeper<'a, I> for Nothing {
+impl<'a, I: Item<'a>> Keeper<'a, I> for Discard {
     ghost keeps = { λ now body first items at. Unit {0} };
 
     ghost has_room = { λ now more. Unit {0} };

@@ -2,7 +2,7 @@
 
 ghost use Rattle.std.specs.Prelude.{◌≡◌, None};
 ghost use Rattle.pg_server.specs.Backend.Message.{Message, fault, IsInRange, IsReadable};
-ghost use Rattle.pg_replication.specs.Logical.LogicalText.{content_part};
+ghost use Rattle.pg_replication.specs.Logical.Encode.{content_part};
 ghost use Rattle.pg_replication.specs.declared.logical.xlog_message.XLogMessage.{XLogMessage};
 ghost use Rattle.pg_message.specs.Backend.{IsDecodedBack, IsAskedBack, IsReadRaw, IsReadInPiece, streamed};
 

@@ -12,7 +12,7 @@ ghost use Rattle.pg_format.proofs.FormatLaws.Parts.{total_signed};
 use pg_base::ProtocolFault;
 use pg_base::io::MAX_BODY;
 use pg_format::field::Signed16;
-use pg_format::items::{Item, Items, Nothing};
+use pg_format::items::{Discard, Item, Items};
 
 /// The format codes of columns in order, borrowed from their message. A copy is walked on its own.
 #[derive(Clone, Copy)]
@@ -39,7 +39,7 @@ impl<'a> ColumnFormats<'a> {
         ensures broken { IfErr result (BreaksAt (times left be_i16) body.now at) }
     {
         let items = Items::begin_at(body, at, left);
-        let end = items.read_all::<Signed16, Nothing>(&mut Nothing)?;
+        let end = items.read_all::<Signed16, Discard>(&mut Discard)?;
         let bytes = &body[at..];
         Ok((ColumnFormats { bytes, left }, end))
     }

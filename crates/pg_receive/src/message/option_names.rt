@@ -11,7 +11,7 @@ ghost use Rattle.pg_format.proofs.FormatLaws.Parts.{total_until_nul};
 
 use pg_base::ProtocolFault;
 use pg_base::io::{Ended, MAX_BODY};
-use pg_format::items::{Item, Items, Nothing};
+use pg_format::items::{Discard, Item, Items};
 
 /// The names of options in order, borrowed from their message. A copy is walked on its own.
 #[derive(Clone, Copy)]
@@ -38,7 +38,7 @@ impl<'a> OptionNames<'a> {
         ensures broken { IfErr result (BreaksAt (times left until_nul) body.now at) }
     {
         let items = Items::begin_at(body, at, left);
-        let end = items.read_all::<Ended<&'a [u8]>, Nothing>(&mut Nothing)?;
+        let end = items.read_all::<Ended<&'a [u8]>, Discard>(&mut Discard)?;
         let bytes = &body[at..];
         Ok((OptionNames { bytes, left }, end))
     }

@@ -3,7 +3,7 @@ use Rattle.std.specs.Prelude.{◌≡◌, ℕ, Bool, List, ◌∷◌, ◌++◌, m
 use Rattle.pg_base.specs.Part.{PartLaw}
 use Rattle.pg_format.specs.Format.{Format, Total}
 use Rattle.pg_format.specs.Listed.{values_in}
-use Rattle.pg_server.specs.Backend.Item.{IsItemPart}
+use Rattle.pg_server.specs.Backend.OutboundItem.{IsItemPart}
 
 -- the values of so many at the front of some bytes, and those of some items
 abbrev pub listed : {I A : Type 0} {g : Format A} → Total g → (I → A) → ℕ → List ℕ → List I → List A

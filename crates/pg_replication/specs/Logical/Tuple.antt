@@ -7,7 +7,7 @@ use Rattle.pg_format.specs.Logical as page
 use Rattle.pg_format.proofs.FormatLaws.Logical.{total_datum}
 use Rattle.pg_replication.specs.declared.logical.datum.Datum.{Datum}
 use Rattle.pg_replication.specs.declared.logical.datum.Datum.TheVariants as datum
-use Rattle.pg_replication.specs.declared.logical.datum.DatumText.{DatumText}
+use Rattle.pg_replication.specs.declared.logical.datum.OutboundDatum.{OutboundDatum}
 use Rattle.pg_replication.specs.declared.logical.tuple.Tuple.{Tuple}
 use Rattle.pg_replication.specs.Logical.Listed.{listed}
 
@@ -22,16 +22,16 @@ shown_datum (datum.Binary value) = page.binary value.now
 abbrev pub is_kind : ℕ → Bool
 is_kind byte = byte == 110 || (byte == 117 || (byte == 116 || byte == 98))
 
-abbrev pub kind_fault : DatumText → Option ProtocolFault
+abbrev pub kind_fault : OutboundDatum → Option ProtocolFault
 kind_fault it = if is_kind it.kind then None else Some (UnknownLetter it.kind)
 
 -- that of the first that has one
-abbrev pub kinds_fault : List DatumText → Option ProtocolFault
+abbrev pub kinds_fault : List OutboundDatum → Option ProtocolFault
 kinds_fault [] = None
 kinds_fault (it ∷ given) = option_or (kind_fault it) (kinds_fault given)
 
 -- one of a known kind
-abbrev pub shown_text : DatumText → page.Datum
+abbrev pub shown_text : OutboundDatum → page.Datum
 shown_text it =
     if it.kind == 110 then page.null else (
     if it.kind == 117 then page.unchanged else (

@@ -1,6 +1,6 @@
 -- A message of logical replication as a server streams it.
 use Rattle.pg_format.specs.Replication.{XLogData}
-use Rattle.pg_replication.specs.Logical.LogicalText.{content}
+use Rattle.pg_replication.specs.Logical.Encode.{content}
 use Rattle.pg_replication.specs.declared.logical.xlog_message.XLogMessage.{XLogMessage}
 
 -- the piece of the log that it is

@@ -5,7 +5,7 @@ ghost use Rattle.pg_format.specs.Format.Places.{ReadsAfter};
 ghost use Rattle.pg_format.specs.Logical as page;
 ghost use Rattle.pg_replication.specs.Logical.{shown_insert, shown_update, shown_delete, shown_truncate};
 
-use crate::logical::fields::{Fields, Transaction, streamed_fields};
+use crate::logical::fields::{OutboundFields, Transaction, streamed_fields};
 use crate::logical::old::{NewLetter, OldOrNone};
 use crate::logical::relations::Truncated;
 use crate::logical::{Old, Relations, Tuple};
@@ -48,8 +48,8 @@ impl<'a> Insert<'a> {
     }
 }
 
-impl<'a> Fields for Insert<'a> {
-    ghost use Rattle.pg_replication.specs.Logical.LogicalText.{insert_part};
+impl<'a> OutboundFields for Insert<'a> {
+    ghost use Rattle.pg_replication.specs.Logical.Encode.{insert_part};
 
     type Parts = Then<Transaction, InsertParts<'a>>;
 
@@ -99,8 +99,8 @@ impl<'a> Update<'a> {
     }
 }
 
-impl<'a> Fields for Update<'a> {
-    ghost use Rattle.pg_replication.specs.Logical.LogicalText.{update_part};
+impl<'a> OutboundFields for Update<'a> {
+    ghost use Rattle.pg_replication.specs.Logical.Encode.{update_part};
 
     type Parts = Then<Transaction, UpdateParts<'a>>;
 
@@ -149,8 +149,8 @@ impl<'a> Delete<'a> {
     }
 }
 
-impl<'a> Fields for Delete<'a> {
-    ghost use Rattle.pg_replication.specs.Logical.LogicalText.{delete_part};
+impl<'a> OutboundFields for Delete<'a> {
+    ghost use Rattle.pg_replication.specs.Logical.Encode.{delete_part};
 
     type Parts = Then<Transaction, Then<Number32, Old<'a>>>;
 
@@ -198,8 +198,8 @@ impl<'a> Truncate<'a> {
     }
 }
 
-impl<'a> Fields for Truncate<'a> {
-    ghost use Rattle.pg_replication.specs.Logical.LogicalText.{truncate_part};
+impl<'a> OutboundFields for Truncate<'a> {
+    ghost use Rattle.pg_replication.specs.Logical.Encode.{truncate_part};
 
     type Parts = Then<Transaction, Truncated<'a>>;
 

@@ -10,7 +10,7 @@ use pg_base::io::part::{Byte, Either, Then};
 use pg_base::io::{MAX_BODY, u8_at};
 use pg_format::field::SizedBytes;
 use pg_format::items::Item;
-use pg_server::backend;
+use pg_server::backend::OutboundItem;
 
 const NULL: u8 = b'n';
 
@@ -37,16 +37,16 @@ pub enum Datum<'a> {
 /// [`Datum::Null`], `u` for [`Datum::Unchanged`], `t` for [`Datum::Text`], and `b` for [`Datum::Binary`].
 #[repr(C)]
 #[derive(Clone, Copy, Debug, PartialEq, Eq)]
-pub struct DatumText<'a> {
+pub struct OutboundDatum<'a> {
     /// The letter of its kind.
     pub kind: u8,
     /// Its bytes; those of the first two kinds aren't looked at.
     pub value: &'a [u8],
 }
 
-impl<'a> DatumText<'a> {
+impl<'a> OutboundDatum<'a> {
     /// This value, to be written.
-    pub fn of(datum: Datum<'a>) -> DatumText<'a>
+    pub fn of(datum: Datum<'a>) -> OutboundDatum<'a>
         ensures known { kind_fault result ≡ None }
         ensures shown { shown_text result ≡ shown_datum datum.entry }
     {
@@ -56,7 +56,7 @@ impl<'a> DatumText<'a> {
             Datum::Text(value) => (TEXT, value),
             Datum::Binary(value) => (BINARY, value),
         };
-        DatumText { kind, value }
+        OutboundDatum { kind, value }
     }
 
     // `UnknownLetter` for another kind.
@@ -83,7 +83,7 @@ impl<'a> DatumText<'a> {
 }
 
 /// The fault of the first value of another kind.
-pub(crate) fn kinds_fault(given: &[DatumText<'_>]) -> Option<ProtocolFault>
+pub(crate) fn kinds_fault(given: &[OutboundDatum<'_>]) -> Option<ProtocolFault>
     ensures { result ≡ kinds_fault given.now }
 {
     for value in given {
@@ -135,7 +135,7 @@ fn datum_by(letter: u8, body: &[u8], at: usize) -> Result<(Datum<'_>, usize), Pr
 /// The letter, and the value where one is sent.
 pub type DatumParts<'a> = Either<Byte, Then<Byte, SizedBytes<'a>>>;
 
-impl<'a> backend::Item for Datum<'a> {
+impl<'a> OutboundItem for Datum<'a> {
     type Parts = DatumParts<'a>;
 
     ghost use Rattle.std.specs.Prelude.{false};

@@ -38,7 +38,7 @@ pub(crate) fn streamed_fields<'a, F: Item<'a> + Copy>(
 pub struct Transaction(pub Option<u32>);
 
 impl Part for Transaction {
-    ghost use Rattle.pg_replication.specs.Logical.LogicalText.{transaction_part};
+    ghost use Rattle.pg_replication.specs.Logical.Encode.{transaction_part};
 
     ghost part = { λ it. transaction_part it.0 };
 
@@ -61,7 +61,7 @@ impl Part for Transaction {
 }
 
 /// What a message says after its letter, as it is written.
-pub(crate) trait Fields {
+pub(crate) trait OutboundFields {
     /// The parts: those by which it is read.
     type Parts: Part;
 

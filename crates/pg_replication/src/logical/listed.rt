@@ -35,10 +35,10 @@ pub(crate) trait Listed: Copy {
 
 /// The items of a list, one after the other.
 #[derive(Clone, Copy)]
-pub(crate) struct Each<L>(pub L);
+pub(crate) struct ListedItems<L>(pub L);
 
-impl<L: Listed> Part for Each<L> {
-    ghost use Rattle.pg_server.specs.Backend.Item.{items_part};
+impl<L: Listed> Part for ListedItems<L> {
+    ghost use Rattle.pg_server.specs.Backend.OutboundItem.{items_part};
 
     ghost part = { λ it. items_part L.format L.is_broken L.IsInRange (L.values it.0) };
 

@@ -108,7 +108,7 @@ impl<'a> Item<'a> for NewLetter {
 }
 
 impl Part for Old<'_> {
-    ghost use Rattle.pg_replication.specs.Logical.LogicalText.{old_part};
+    ghost use Rattle.pg_replication.specs.Logical.Encode.{old_part};
 
     ghost part = { λ it. old_part (shown_old it) };
 
@@ -140,7 +140,7 @@ impl Part for Old<'_> {
 
 impl Part for OldOrNone<'_> {
     ghost use Rattle.std.specs.Prelude.{option_map};
-    ghost use Rattle.pg_replication.specs.Logical.LogicalText.{old_or_none_part};
+    ghost use Rattle.pg_replication.specs.Logical.Encode.{old_or_none_part};
 
     ghost part = { λ it. old_or_none_part (option_map shown_old it.0) };
 

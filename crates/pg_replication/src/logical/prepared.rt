@@ -5,7 +5,7 @@ ghost use Rattle.pg_format.specs.Format.Places.{ReadsAfter};
 ghost use Rattle.pg_format.specs.Logical as page;
 ghost use Rattle.pg_replication.specs.Logical.{shown_begin_prepare, shown_prepared, shown_rollback_prepared};
 
-use crate::logical::fields::Fields;
+use crate::logical::fields::OutboundFields;
 use pg_base::ProtocolFault;
 use pg_base::io::MAX_BODY;
 use pg_base::io::part::{Number32, Number64, Then};
@@ -56,8 +56,8 @@ impl<'a> BeginPrepare<'a> {
     }
 }
 
-impl<'a> Fields for BeginPrepare<'a> {
-    ghost use Rattle.pg_replication.specs.Logical.LogicalText.{begin_prepare_part};
+impl<'a> OutboundFields for BeginPrepare<'a> {
+    ghost use Rattle.pg_replication.specs.Logical.Encode.{begin_prepare_part};
 
     type Parts = BeginPrepareParts<'a>;
 
@@ -121,8 +121,8 @@ impl<'a> Prepared<'a> {
     }
 }
 
-impl<'a> Fields for Prepared<'a> {
-    ghost use Rattle.pg_replication.specs.Logical.LogicalText.{prepared_part};
+impl<'a> OutboundFields for Prepared<'a> {
+    ghost use Rattle.pg_replication.specs.Logical.Encode.{prepared_part};
 
     type Parts = PreparedParts<'a>;
 
@@ -192,8 +192,8 @@ impl<'a> RollbackPrepared<'a> {
     }
 }
 
-impl<'a> Fields for RollbackPrepared<'a> {
-    ghost use Rattle.pg_replication.specs.Logical.LogicalText.{rollback_prepared_part};
+impl<'a> OutboundFields for RollbackPrepared<'a> {
+    ghost use Rattle.pg_replication.specs.Logical.Encode.{rollback_prepared_part};
 
     type Parts = RollbackPreparedParts<'a>;
 

@@ -5,8 +5,8 @@ ghost use Rattle.pg_format.specs.Format.Places.{ReadsAfter};
 ghost use Rattle.pg_format.specs.Logical as page;
 ghost use Rattle.pg_replication.specs.Logical.{shown_relation, shown_type_name};
 
-use crate::logical::Columns;
-use crate::logical::fields::{Fields, Transaction, streamed_fields};
+use crate::logical::TableColumns;
+use crate::logical::fields::{OutboundFields, Transaction, streamed_fields};
 use pg_base::ProtocolFault;
 use pg_base::io::MAX_BODY;
 use pg_base::io::part::{Number32, Then};
@@ -28,12 +28,12 @@ pub struct Relation<'a> {
     /// What is sent of a row before its change, as `pg_class.relreplident` has it: `d`, `n`, `f` or `i`.
     pub replica_identity: u8,
     /// The table's columns, without those that are generated.
-    pub columns: Columns<'a>,
+    pub columns: TableColumns<'a>,
 }
 
 type RelationParts<'a> = Then<
     Number32,
-    Then<NulEnded<'a>, Then<NulEnded<'a>, Then<Number8, Columns<'a>>>>,
+    Then<NulEnded<'a>, Then<NulEnded<'a>, Then<Number8, TableColumns<'a>>>>,
 >;
 
 impl<'a> Relation<'a> {
@@ -61,8 +61,8 @@ impl<'a> Relation<'a> {
     }
 }
 
-impl<'a> Fields for Relation<'a> {
-    ghost use Rattle.pg_replication.specs.Logical.LogicalText.{relation_part};
+impl<'a> OutboundFields for Relation<'a> {
+    ghost use Rattle.pg_replication.specs.Logical.Encode.{relation_part};
 
     type Parts = Then<Transaction, RelationParts<'a>>;
 
@@ -117,8 +117,8 @@ impl<'a> TypeName<'a> {
     }
 }
 
-impl<'a> Fields for TypeName<'a> {
-    ghost use Rattle.pg_replication.specs.Logical.LogicalText.{type_name_part};
+impl<'a> OutboundFields for TypeName<'a> {
+    ghost use Rattle.pg_replication.specs.Logical.Encode.{type_name_part};
 
     type Parts = Then<Transaction, TypeNameParts<'a>>;
 

@@ -9,11 +9,11 @@ ghost use Rattle.pg_format.proofs.FormatLaws.Logical.{total_id};
 ghost use Rattle.pg_format.specs.Received.{max_body};
 ghost use Rattle.pg_format.specs.Listed.{values_in};
 
-use crate::logical::listed::{Each, Listed};
+use crate::logical::listed::{Listed, ListedItems};
 use pg_base::ProtocolFault;
 use pg_base::io::part::{Number32, Part};
 use pg_base::io::{MAX_BODY, Sink, u8_at, u32_at};
-use pg_format::items::{Item, Items, Nothing};
+use pg_format::items::{Discard, Item, Items};
 
 /// The numbers of tables in order, borrowed from their message or from a caller. A copy is walked on its own.
 #[derive(Clone, Copy)]
@@ -55,7 +55,7 @@ impl<'a> Relations<'a> {
         ensures broken { IfErr result (BreaksAt (times left be_u32) message.now at) }
     {
         let items = Items::begin_at(message, at, left);
-        let end = items.read_all::<Number32, Nothing>(&mut Nothing)?;
+        let end = items.read_all::<Number32, Discard>(&mut Discard)?;
         let relations = Relations {
             bytes: &message[at..],
             left,
@@ -156,12 +156,12 @@ impl<'a> Listed for Relations<'a> {
 
 impl Part for Truncated<'_> {
     ghost use Rattle.pg_replication.specs.Logical.Relations.{relation_ids};
-    ghost use Rattle.pg_replication.specs.Logical.LogicalText.{truncated_part};
+    ghost use Rattle.pg_replication.specs.Logical.Encode.{truncated_part};
 
     ghost part = { λ it. truncated_part (it.0, relation_ids it.1) };
 
     fn len(&self) -> usize {
-        Each(self.1).len().saturating_add(5)
+        ListedItems(self.1).len().saturating_add(5)
     }
 
     fn fault(&self) -> Option<ProtocolFault> {
@@ -171,6 +171,6 @@ impl Part for Truncated<'_> {
     fn put<S: Sink>(&self, sink: &mut S) {
         sink.put_u32(self.1.len() as u32);
         sink.put_u8(self.0);
-        Each(self.1).put(sink);
+        ListedItems(self.1).put(sink);
     }
 }

@@ -5,10 +5,10 @@ ghost use Rattle.pg_format.specs.Format.Places.{ReadsAfter};
 ghost use Rattle.pg_format.specs.Logical as page;
 ghost use Rattle.pg_replication.specs.Logical.{shown_stream_start, shown_stream_stop, shown_stream_commit, shown_stream_abort};
 
-use crate::logical::fields::Fields;
+use crate::logical::fields::OutboundFields;
 use pg_base::ProtocolFault;
 use pg_base::io::MAX_BODY;
-use pg_base::io::part::{Nothing, Number32, Number64, Then};
+use pg_base::io::part::{NoBytes, Number32, Number64, Then};
 use pg_format::field::{Flag, Number8, Signed64, fields_from};
 
 /// Messages of a streamed transaction follow, up to the [`StreamStop`]. Documentation: "Logical Replication Message Formats", Stream Start.
@@ -37,8 +37,8 @@ impl StreamStart {
     }
 }
 
-impl Fields for StreamStart {
-    ghost use Rattle.pg_replication.specs.Logical.LogicalText.{stream_start_part};
+impl OutboundFields for StreamStart {
+    ghost use Rattle.pg_replication.specs.Logical.Encode.{stream_start_part};
 
     type Parts = Then<Number32, Flag>;
 
@@ -61,21 +61,21 @@ impl StreamStop {
         requires short { length message.now ≤ MAX_BODY }
         ensures { ReadsAfter page.stream_stop shown_stream_stop message.now at result }
     {
-        let Nothing = fields_from::<Nothing>(message, at)?;
+        let NoBytes = fields_from::<NoBytes>(message, at)?;
         Ok(StreamStop)
     }
 }
 
-impl Fields for StreamStop {
-    ghost use Rattle.pg_replication.specs.Logical.LogicalText.{stream_stop_part};
+impl OutboundFields for StreamStop {
+    ghost use Rattle.pg_replication.specs.Logical.Encode.{stream_stop_part};
 
-    type Parts = Nothing;
+    type Parts = NoBytes;
 
     ghost law = { stream_stop_part };
 
     #[inline(always)]
     fn parts(&self) -> Self::Parts {
-        Nothing
+        NoBytes
     }
 }
 
@@ -117,8 +117,8 @@ impl StreamCommit {
     }
 }
 
-impl Fields for StreamCommit {
-    ghost use Rattle.pg_replication.specs.Logical.LogicalText.{stream_commit_part};
+impl OutboundFields for StreamCommit {
+    ghost use Rattle.pg_replication.specs.Logical.Encode.{stream_commit_part};
 
     type Parts = StreamCommitParts;
 
@@ -158,8 +158,8 @@ impl StreamAbort {
     }
 }
 
-impl Fields for StreamAbort {
-    ghost use Rattle.pg_replication.specs.Logical.LogicalText.{stream_abort_part};
+impl OutboundFields for StreamAbort {
+    ghost use Rattle.pg_replication.specs.Logical.Encode.{stream_abort_part};
 
     type Parts = Then<Number32, Number32>;
 

@@ -5,7 +5,7 @@ ghost use Rattle.pg_format.specs.Format.Places.{ReadsAfter};
 ghost use Rattle.pg_format.specs.Logical as page;
 ghost use Rattle.pg_replication.specs.Logical.{shown_begin, shown_message, shown_commit, shown_origin};
 
-use crate::logical::fields::{Fields, Transaction, streamed_fields};
+use crate::logical::fields::{OutboundFields, Transaction, streamed_fields};
 use pg_base::ProtocolFault;
 use pg_base::io::MAX_BODY;
 use pg_base::io::part::{Number32, Number64, Then};
@@ -41,8 +41,8 @@ impl Begin {
     }
 }
 
-impl Fields for Begin {
-    ghost use Rattle.pg_replication.specs.Logical.LogicalText.{begin_part};
+impl OutboundFields for Begin {
+    ghost use Rattle.pg_replication.specs.Logical.Encode.{begin_part};
 
     type Parts = Then<Number64, Then<Signed64, Number32>>;
 
@@ -99,8 +99,8 @@ impl<'a> Message<'a> {
     }
 }
 
-impl<'a> Fields for Message<'a> {
-    ghost use Rattle.pg_replication.specs.Logical.LogicalText.{message_part};
+impl<'a> OutboundFields for Message<'a> {
+    ghost use Rattle.pg_replication.specs.Logical.Encode.{message_part};
 
     type Parts = Then<Transaction, MessageParts<'a>>;
 
@@ -148,8 +148,8 @@ impl Commit {
     }
 }
 
-impl Fields for Commit {
-    ghost use Rattle.pg_replication.specs.Logical.LogicalText.{commit_part};
+impl OutboundFields for Commit {
+    ghost use Rattle.pg_replication.specs.Logical.Encode.{commit_part};
 
     type Parts = CommitParts;
 
@@ -190,8 +190,8 @@ impl<'a> Origin<'a> {
     }
 }
 
-impl<'a> Fields for Origin<'a> {
-    ghost use Rattle.pg_replication.specs.Logical.LogicalText.{origin_part};
+impl<'a> OutboundFields for Origin<'a> {
+    ghost use Rattle.pg_replication.specs.Logical.Encode.{origin_part};
 
     type Parts = Then<Number64, NulEnded<'a>>;
 

@@ -7,13 +7,13 @@ ghost use Rattle.pg_format.specs.Received.{max_body};
 ghost use Rattle.pg_format.specs.Listed.{values_in};
 
 use crate::logical::datum::{DatumParts, kinds_fault};
-use crate::logical::listed::{Each, Listed};
-use crate::logical::{Datum, DatumText};
+use crate::logical::listed::{Listed, ListedItems};
+use crate::logical::{Datum, OutboundDatum};
 use pg_base::ProtocolFault;
 use pg_base::io::part::{Part, Then};
 use pg_base::io::{Sink, u16_at};
-use pg_format::items::{Item, Items, Nothing};
-use pg_server::backend::{self, Count};
+use pg_format::items::{Discard, Item, Items};
+use pg_server::backend::{Count, OutboundItem};
 
 /// The values of the columns of a row in order, borrowed from their message or from a caller. Documentation: "Logical
 /// Replication Message Formats", TupleData. A copy is walked on its own.
@@ -23,7 +23,7 @@ pub struct Tuple<'a> {
     bytes: &'a [u8],
     left: usize,
     // Those of a caller, after them.
-    given: &'a [DatumText<'a>],
+    given: &'a [OutboundDatum<'a>],
     ghost short: { length bytes.now ≤ max_body },
     ghost whole: { length (values_in total_datum left bytes.now) ≡ left },
     ghost few: { left < 2 ^ 32 },
@@ -33,7 +33,7 @@ impl<'a> Tuple<'a> {
     ghost use Rattle.pg_replication.specs.Logical.Tuple.{datums, shown_datum, shown_text, kinds_fault, IsMade};
 
     /// These values, to be written. One of another kind than the four is refused with `UnknownLetter`.
-    pub fn of(given: &'a [DatumText<'a>]) -> Result<Tuple<'a>, ProtocolFault>
+    pub fn of(given: &'a [OutboundDatum<'a>]) -> Result<Tuple<'a>, ProtocolFault>
         ensures { IsMade datums (kinds_fault given.now) (map shown_text given.now) result }
     {
         match kinds_fault(given) {
@@ -43,7 +43,7 @@ impl<'a> Tuple<'a> {
     }
 
     // Values whose kinds are known.
-    fn given(given: &'a [DatumText<'a>]) -> Tuple<'a>
+    fn given(given: &'a [OutboundDatum<'a>]) -> Tuple<'a>
         ensures { datums result ≡ map shown_text given.now }
     {
         Tuple {
@@ -119,7 +119,7 @@ impl<'a> Item<'a> for Tuple<'a> {
     fn item_at(body: &'a [u8], at: usize) -> Result<(Tuple<'a>, usize), ProtocolFault> {
         let left = usize::from(u16_at(body, at)?);
         let items = Items::begin_at(body, at + 2, left);
-        let end = items.read_all::<Datum, Nothing>(&mut Nothing)?;
+        let end = items.read_all::<Datum, Discard>(&mut Discard)?;
         let tuple = Tuple {
             bytes: &body[at + 2..],
             left,
@@ -149,7 +149,7 @@ impl<'a> Listed for Tuple<'a> {
     #[inline(always)]
     fn step(&mut self) -> Option<DatumParts<'a>> {
         match self.next() {
-            Some(value) => Some(backend::Item::parts(&value)),
+            Some(value) => Some(OutboundItem::parts(&value)),
             None => None,
         }
     }
@@ -157,19 +157,19 @@ impl<'a> Listed for Tuple<'a> {
 
 impl Part for Tuple<'_> {
     ghost use Rattle.pg_replication.specs.Logical.Tuple.{datums};
-    ghost use Rattle.pg_replication.specs.Logical.LogicalText.{tuple_part};
+    ghost use Rattle.pg_replication.specs.Logical.Encode.{tuple_part};
 
     ghost part = { λ it. tuple_part (datums it) };
 
     fn len(&self) -> usize {
-        Then(Count(self.len()), Each(*self)).len()
+        Then(Count(self.len()), ListedItems(*self)).len()
     }
 
     fn fault(&self) -> Option<ProtocolFault> {
-        Then(Count(self.len()), Each(*self)).fault()
+        Then(Count(self.len()), ListedItems(*self)).fault()
     }
 
     fn put<S: Sink>(&self, sink: &mut S) {
-        Then(Count(self.len()), Each(*self)).put(sink);
+        Then(Count(self.len()), ListedItems(*self)).put(sink);
     }
 }

@@ -2,12 +2,12 @@
 
 ghost use Rattle.pg_server.specs.Backend.Message.{XLogContent};
 ghost use Rattle.pg_replication.specs.Logical.XLogMessage.{piece_of};
-ghost use Rattle.pg_replication.specs.Logical.LogicalText.{content_part};
+ghost use Rattle.pg_replication.specs.Logical.Encode.{content_part};
 
 use crate::logical::LogicalMessage;
 use pg_base::io::part::{Byte, Number64, Then};
 use pg_format::field::Signed64;
-use pg_server::backend::BackendText;
+use pg_server::backend::OutboundMessage;
 
 /// A message of logical replication as a server streams it: the content of an [`XLogData`](crate::XLogData), which is
 /// the data of a CopyData. It is written at once; a fault is that of the message.
@@ -23,7 +23,7 @@ pub struct XLogMessage<'a> {
     pub message: LogicalMessage<'a>,
 }
 
-impl<'a> BackendText for XLogMessage<'a> {
+impl<'a> OutboundMessage for XLogMessage<'a> {
     type Body = Then<Byte, Then<Number64, Then<Number64, Then<Signed64, LogicalMessage<'a>>>>>;
 
     ghost message = { λ it. XLogContent (piece_of it) (content_part it.message).fault };

@@ -2,7 +2,7 @@
 use Rattle.std.specs.Prelude.{◌≡◌, ℕ, zero, suc, ◌+◌, ◌^◌, ◌<◌, ◌≤◌, Bool, true, false, length, None, nat_le, if◌then◌else◌, refl}
 use Rattle.std.proofs.Common.{arith}
 use Rattle.std.proofs.lemmas.Bool.{leb-true}
-use Rattle.pg_base.specs.Text.{ended}
+use Rattle.pg_base.specs.Ended.{ended}
 use Rattle.pg_send.specs.declared.message.password.Password.{Password}
 use Rattle.pg_send.specs.declared.message.password.Password.TheVariants.{Cleartext, Bytes, Md5}
 use Rattle.pg_send.specs.Message.{body, fault, hint, password_message}

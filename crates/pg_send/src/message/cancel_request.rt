@@ -6,7 +6,7 @@ ghost use Rattle.pg_send.specs.CancelRequest.{cancel_request_text, cancel_reques
 
 use crate::message::untagged::Untagged;
 use pg_base::io::part::{Number32, Slice, Then};
-use pg_base::io::{ProtocolEncode, Sink, Text};
+use pg_base::io::{Encodable, ProtocolEncode, Sink};
 use pg_base::{Error, ProtocolFault};
 
 // The length of the whole without its key, in bytes.
@@ -61,7 +61,7 @@ impl ProtocolEncode for CancelRequest<'_> {
     }
 }
 
-impl Text for CancelRequest<'_> {
+impl Encodable for CancelRequest<'_> {
     ghost text = { λ cancel. cancel_request_text (cancel_request_fields cancel) };
 
     ghost can = { λ cancel. key_fault (length cancel.secret_key.now) ≡ None };

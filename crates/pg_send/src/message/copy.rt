@@ -7,7 +7,7 @@ ghost use Rattle.pg_send.specs.Message.{law_of};
 use crate::message::FrontendMessage;
 use crate::message::composed::Composed;
 use crate::message::round_trip::check_text;
-use pg_base::io::part::{Nothing, Part};
+use pg_base::io::part::{NoBytes, Part};
 use pg_base::io::{CopyData, CopyDone, Ended, LendBytes, Sink};
 use pg_base::{FrontendMessageFormat, ProtocolFault};
 
@@ -131,7 +131,7 @@ impl<'a> Composed for CopyFailRef<'a> {
 }
 
 impl Composed for CopyDone {
-    type Body = Nothing;
+    type Body = NoBytes;
 
     const FORMAT: FrontendMessageFormat = FrontendMessageFormat::CopyDone;
 
@@ -152,6 +152,6 @@ impl Composed for CopyDone {
 
     #[inline(always)]
     fn parts(&self) -> Self::Body {
-        Nothing
+        NoBytes
     }
 }

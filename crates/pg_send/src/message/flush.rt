@@ -4,7 +4,7 @@ ghost use Rattle.pg_send.specs.Message as message;
 ghost use Rattle.pg_send.specs.Message.{law_of};
 
 use crate::message::composed::Composed;
-use pg_base::io::part::Nothing;
+use pg_base::io::part::NoBytes;
 use pg_base::{FrontendMessageFormat, ProtocolFault};
 
 /// Asks the server to send what it holds back. Documentation: "Message Formats", Flush (F).
@@ -12,7 +12,7 @@ use pg_base::{FrontendMessageFormat, ProtocolFault};
 pub struct Flush;
 
 impl Composed for Flush {
-    type Body = Nothing;
+    type Body = NoBytes;
 
     const FORMAT: FrontendMessageFormat = FrontendMessageFormat::Flush;
 
@@ -33,6 +33,6 @@ impl Composed for Flush {
 
     #[inline(always)]
     fn parts(&self) -> Self::Body {
-        Nothing
+        NoBytes
     }
 }

@@ -11,7 +11,7 @@ ghost use Rattle.pg_send.specs.FrontendMessage.{Law, CannotRoundTrip, tag, fault
 ghost use Rattle.pg_base.specs.Encode.{IsShort};
 
 use pg_base::io::part::Part;
-use pg_base::io::{HEADER, ProtocolEncode, Sink, Tagged, Text, checked_len, write_text};
+use pg_base::io::{Encodable, HEADER, ProtocolEncode, Sink, Tagged, checked_len, write_text};
 use pg_base::{Error, FrontendMessageFormat, ProtocolFault};
 
 /// A message that a client sends, after a tag and a length.
@@ -183,7 +183,7 @@ pub struct Framed<'a, F> {
     pub len: usize,
 }
 
-impl<F: FrontendMessage> Text for Framed<'_, F> {
+impl<F: FrontendMessage> Encodable for Framed<'_, F> {
     ghost use Rattle.pg_send.specs.FrontendMessage.{text, IsMeasured};
 
     ghost text = { λ framed. text (F.law framed.message.now) };

@@ -4,7 +4,7 @@ ghost use Rattle.pg_send.specs.FunctionCall.{function_call_law, function_call_fi
 
 use crate::message::composed::Composed;
 use crate::message::counted::{Codes, ParamFormats};
-use crate::message::values::{AsValue, Each};
+use crate::message::values::{AsValue, CountedValues};
 use pg_base::io::Oid;
 use pg_base::io::part::{Number16, Number32, Then};
 use pg_base::{FrontendMessageFormat, ProtocolFault};
@@ -24,7 +24,10 @@ pub struct FunctionCall<'a, V = Option<&'a [u8]>> {
 }
 
 impl<'a, V: AsValue + Drop> Composed for FunctionCall<'a, V> {
-    type Body = Then<Number32, Then<Codes<'a, ParamFormats, u16>, Then<Each<'a, V>, Number16>>>;
+    type Body = Then<
+        Number32,
+        Then<Codes<'a, ParamFormats, u16>, Then<CountedValues<'a, V>, Number16>>,
+    >;
 
     const FORMAT: FrontendMessageFormat = FrontendMessageFormat::FunctionCall;
 
@@ -49,7 +52,7 @@ impl<'a, V: AsValue + Drop> Composed for FunctionCall<'a, V> {
             Number32(self.object_id.0),
             Then(
                 Codes(ParamFormats, self.formats),
-                Then(Each(self.arguments), Number16(self.result_format)),
+                Then(CountedValues(self.arguments), Number16(self.result_format)),
             ),
         )
     }

@@ -5,7 +5,7 @@ ghost use Rattle.pg_send.specs.GssEncRequest.{gss_enc_request_text};
 
 use crate::message::ssl_request::{encode_code, put_code};
 use pg_base::Error;
-use pg_base::io::{ProtocolEncode, Sink, Text};
+use pg_base::io::{Encodable, ProtocolEncode, Sink};
 
 // What stands in the place of a version: 1234 in the upper two bytes and 5680 in the lower.
 const GSS_ENC_REQUEST: u32 = 80877104;
@@ -27,7 +27,7 @@ impl ProtocolEncode for GssEncRequest {
     }
 }
 
-impl Text for GssEncRequest {
+impl Encodable for GssEncRequest {
     ghost text = { λ _. gss_enc_request_text };
 
     ghost can = { λ _. Unit {0} };

@@ -6,7 +6,7 @@ use crate::message::bind::BindParts;
 use crate::message::composed::Composed;
 use crate::message::counted::{Codes, ParamFormats, ResultFormats};
 use crate::message::round_trip::check_name;
-use crate::message::values::{AsValue, Each};
+use crate::message::values::{AsValue, CountedValues};
 use pg_base::io::Ended;
 use pg_base::io::part::{Then, ThenFirst};
 use pg_base::{FrontendMessageFormat, ProtocolFault};
@@ -35,7 +35,7 @@ impl<'a, V: AsValue + Drop> Composed for RawBind<'a, V> {
         &'a [u8],
         &'a [u8],
         u16,
-        ThenFirst<Each<'a, V>, Codes<'a, ResultFormats, u16>>,
+        ThenFirst<CountedValues<'a, V>, Codes<'a, ResultFormats, u16>>,
     >;
 
     const FORMAT: FrontendMessageFormat = FrontendMessageFormat::Bind;
@@ -65,7 +65,10 @@ impl<'a, V: AsValue + Drop> Composed for RawBind<'a, V> {
                 Ended(self.statement),
                 Then(
                     Codes(ParamFormats, self.formats),
-                    ThenFirst(Each(self.values), Codes(ResultFormats, self.result_formats)),
+                    ThenFirst(
+                        CountedValues(self.values),
+                        Codes(ResultFormats, self.result_formats),
+                    ),
                 ),
             ),
         )

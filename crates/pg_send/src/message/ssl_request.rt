@@ -6,7 +6,7 @@ ghost use Rattle.pg_send.specs.SslRequest.{code_text, ssl_request_text};
 ghost use Rattle.pg_base.specs.Sink.{HasRoom};
 
 use pg_base::Error;
-use pg_base::io::{ProtocolEncode, Sink, Text};
+use pg_base::io::{Encodable, ProtocolEncode, Sink};
 
 /// The length of a message that is a code alone, in bytes.
 pub const CODE_LENGTH: usize = 8;
@@ -31,7 +31,7 @@ impl ProtocolEncode for SslRequest {
     }
 }
 
-impl Text for SslRequest {
+impl Encodable for SslRequest {
     ghost text = { λ _. ssl_request_text };
 
     ghost can = { λ _. Unit {0} };

@@ -4,7 +4,7 @@ ghost use Rattle.pg_send.specs.Message as message;
 ghost use Rattle.pg_send.specs.Message.{law_of};
 
 use crate::message::composed::Composed;
-use pg_base::io::part::Nothing;
+use pg_base::io::part::NoBytes;
 use pg_base::{FrontendMessageFormat, ProtocolFault};
 
 /// Asks the server to end the extended query and to say that it is ready. Documentation: "Message
@@ -13,7 +13,7 @@ use pg_base::{FrontendMessageFormat, ProtocolFault};
 pub struct Sync;
 
 impl Composed for Sync {
-    type Body = Nothing;
+    type Body = NoBytes;
 
     const FORMAT: FrontendMessageFormat = FrontendMessageFormat::Sync;
 
@@ -34,6 +34,6 @@ impl Composed for Sync {
 
     #[inline(always)]
     fn parts(&self) -> Self::Body {
-        Nothing
+        NoBytes
     }
 }

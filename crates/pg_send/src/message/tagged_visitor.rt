@@ -5,7 +5,7 @@ ghost use Rattle.pg_send.specs.FrontendMessage.{Law, fault, hint, room_or_fault}
 ghost use Rattle.pg_send.specs.TaggedVisitor.{PutsIfFits, PutsIfReadBack, IsRoundTripCheck, EncodesInRange, FrameFits, PutsFrame};
 
 use crate::message::{Framed, FrontendMessage, encode_frame, put_if_fits};
-use pg_base::io::{Sink, Text};
+use pg_base::io::{Encodable, Sink};
 use pg_base::{Error, ProtocolFault};
 
 /// Takes a message of any type and what it works on, for [`TaggedMessage::visit`].

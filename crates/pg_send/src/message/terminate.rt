@@ -4,7 +4,7 @@ ghost use Rattle.pg_send.specs.Message as message;
 ghost use Rattle.pg_send.specs.Message.{law_of};
 
 use crate::message::composed::Composed;
-use pg_base::io::part::Nothing;
+use pg_base::io::part::NoBytes;
 use pg_base::{FrontendMessageFormat, ProtocolFault};
 
 /// Tells the server that the session ends. Documentation: "Message Formats", Terminate (F).
@@ -12,7 +12,7 @@ use pg_base::{FrontendMessageFormat, ProtocolFault};
 pub struct Terminate;
 
 impl Composed for Terminate {
-    type Body = Nothing;
+    type Body = NoBytes;
 
     const FORMAT: FrontendMessageFormat = FrontendMessageFormat::Terminate;
 
@@ -33,6 +33,6 @@ impl Composed for Terminate {
 
     #[inline(always)]
     fn parts(&self) -> Self::Body {
-        Nothing
+        NoBytes
     }
 }

@@ -7,7 +7,7 @@ ghost use Rattle.pg_base.specs.Tagged.{fault_of};
 ghost use Rattle.pg_send.specs.Untagged.{EncodesUntagged, WritesUntagged};
 
 use pg_base::io::part::Part;
-use pg_base::io::{Sink, Text, checked_len, write_text};
+use pg_base::io::{Encodable, Sink, checked_len, write_text};
 use pg_base::{Error, ProtocolFault};
 
 /// The length of the whole message, which counts its own four bytes, or the first limit that it breaks.
@@ -53,7 +53,7 @@ pub struct Untagged<P> {
     pub len: usize,
 }
 
-impl<P: Part> Text for Untagged<P> {
+impl<P: Part> Encodable for Untagged<P> {
     ghost use Rattle.pg_send.specs.Untagged.{IsUntagged};
 
     ghost text = { λ it. prefixed (P.part it.parts).text };

@@ -31,9 +31,9 @@ impl AsValue for Option<&[u8]> {
 
 /// Values, each after its length, after their count. More than 65535 are refused with `BadParams`.
 #[derive(Clone, Copy)]
-pub struct Each<'a, V>(pub &'a [V]);
+pub struct CountedValues<'a, V>(pub &'a [V]);
 
-impl<V: AsValue> Part for Each<'_, V> {
+impl<V: AsValue> Part for CountedValues<'_, V> {
     ghost use Rattle.pg_send.specs.Values.{values};
 
     ghost part = { λ it. values (map V.value it.0.now) };

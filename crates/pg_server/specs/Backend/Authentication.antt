@@ -5,11 +5,11 @@ use Rattle.std.specs.Borrow.{Bor}
 use Rattle.std.specs.List.{list_any}
 use Rattle.pg_base.specs.declared.error.ProtocolFault.{ProtocolFault}
 use Rattle.pg_format.specs.Messages as page
-use Rattle.pg_server.specs.Backend.Item.{breaks_names, nul_fault}
-use Rattle.pg_server.specs.declared.backend.authentication.AuthenticationText.{AuthenticationText}
-use Rattle.pg_server.specs.declared.backend.authentication.AuthenticationText.TheVariants as requests
+use Rattle.pg_server.specs.Backend.OutboundItem.{breaks_names, nul_fault}
+use Rattle.pg_server.specs.declared.backend.authentication.OutboundAuthentication.{OutboundAuthentication}
+use Rattle.pg_server.specs.declared.backend.authentication.OutboundAuthentication.TheVariants as requests
 
-abbrev pub request_of : AuthenticationText → page.AnyAuthentication
+abbrev pub request_of : OutboundAuthentication → page.AnyAuthentication
 request_of requests.Ok = page.known_method page.ok
 request_of requests.KerberosV5 = page.kerberos_v5
 request_of requests.CleartextPassword = page.known_method page.cleartext_password

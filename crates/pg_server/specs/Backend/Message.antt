@@ -4,7 +4,7 @@ use Rattle.std.specs.Prelude.{◌≡◌, ◌↔◌, ℕ, ◌^◌, ◌<◌, ℤ, 
 use Rattle.std.specs.List.{list_any}
 use Rattle.std.specs.Option.{option_or}
 use Rattle.pg_base.specs.Format.{backend_tag}
-use Rattle.pg_base.specs.Text.{ended}
+use Rattle.pg_base.specs.Ended.{ended}
 use Rattle.pg_base.specs.declared.error.ProtocolFault.{ProtocolFault}
 use Rattle.pg_base.specs.declared.format.BackendMessageFormat.{BackendMessageFormat}
 use Rattle.pg_base.specs.declared.format.BackendMessageFormat.TheVariants as formats
@@ -19,18 +19,18 @@ use Rattle.pg_format.specs.declared.replication.ReplicationKind.TheVariants as c
 use Rattle.pg_format.specs.Notices.{Field, notice_fault}
 use Rattle.pg_format.specs.Sasl.{first_message_fault, final_message_fault}
 use Rattle.pg_server.specs.Backend.Authentication.{names_fault, IsAskable}
-use Rattle.pg_server.specs.Backend.BackendText as law
-use Rattle.pg_server.specs.Backend.BackendText.{Law}
+use Rattle.pg_server.specs.Backend.OutboundMessage as law
+use Rattle.pg_server.specs.Backend.OutboundMessage.{Law}
 use Rattle.pg_server.specs.Backend.Copy.{direction_tag, response_of, IsCopyInRange}
-use Rattle.pg_server.specs.Backend.Item.{too_many, max_unsigned, max_signed, holds_nul, nul_fault, text_fault}
+use Rattle.pg_server.specs.Backend.OutboundItem.{too_many, max_unsigned, max_signed, holds_nul, nul_fault, text_fault}
 use Rattle.pg_server.specs.Backend.NoBody.{no_body_kind}
 use Rattle.pg_server.specs.Backend.Notice.{notice_tag, breaks_fields}
 use Rattle.pg_server.specs.Backend.ReadyForQuery.{status_of}
 use Rattle.pg_server.specs.Backend.RowDescription.{IsColumnInRange}
 use Rattle.pg_server.specs.declared.backend.copy.CopyDirection.{CopyDirection}
-use Rattle.pg_server.specs.declared.backend.no_body.NoBodyText.{NoBodyText}
+use Rattle.pg_server.specs.declared.backend.no_body.OutboundNoBody.{OutboundNoBody}
 use Rattle.pg_server.specs.declared.backend.notice.NoticeKind.{NoticeKind}
-use Rattle.pg_server.specs.declared.backend.ready_for_query.ReadyForQueryText.{ReadyForQueryText}
+use Rattle.pg_server.specs.declared.backend.ready_for_query.OutboundReadyForQuery.{OutboundReadyForQuery}
 use Rattle.pg_base.specs.Tagged.{checked_len}
 
 pub data Message : Type 0 where
@@ -42,13 +42,13 @@ pub data Message : Type 0 where
   DataRow : List (Option (List ℕ)) → Message
   FunctionCallResponse : Option (List ℕ) → Message
   NegotiateProtocolVersion : page.Negotiation → Message
-  NoBody : NoBodyText → Message
+  NoBody : OutboundNoBody → Message
   Notice : NoticeKind → List Field → Message
   Notification : page.Notification → Message
   ParameterDescription : List ℕ → Message
   ParameterStatus : page.Setting → Message
   Raw : ℕ → List ℕ → Message
-  ReadyForQuery : ReadyForQueryText → Message
+  ReadyForQuery : OutboundReadyForQuery → Message
   Replication : (kind : ReplicationKind) → (in_copy_data kind).Value → Message
   RowDescription : List page.Column → Message
   XLogContent : logged.XLogData → Option ProtocolFault → Message

@@ -5,7 +5,7 @@ use Rattle.std.specs.List.{flat_map, list_any}
 use Rattle.pg_base.specs.Numbers.{be32}
 use Rattle.pg_base.specs.Part.{PartLaw}
 use Rattle.pg_format.specs.Format.Parts.{until_nul}
-use Rattle.pg_server.specs.Backend.Item.{holds_nul, nul_fault}
+use Rattle.pg_server.specs.Backend.OutboundItem.{holds_nul, nul_fault}
 
 -- the names after their count
 abbrev pub options_part : List (List ℕ) → PartLaw

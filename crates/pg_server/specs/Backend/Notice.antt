@@ -5,8 +5,8 @@ use Rattle.pg_base.specs.Format.{backend_tag}
 use Rattle.pg_base.specs.Part.{PartLaw}
 use Rattle.pg_base.specs.declared.format.BackendMessageFormat.TheVariants as formats
 use Rattle.pg_format.specs.Notices.{Field}
-use Rattle.pg_server.specs.Backend.Item.{holds_nul, nul_fault}
-use Rattle.pg_server.specs.declared.backend.notice.NoticeFieldText.{NoticeFieldText}
+use Rattle.pg_server.specs.Backend.OutboundItem.{holds_nul, nul_fault}
+use Rattle.pg_server.specs.declared.backend.notice.OutboundNoticeField.{OutboundNoticeField}
 use Rattle.pg_server.specs.declared.backend.notice.NoticeKind.{NoticeKind}
 use Rattle.pg_server.specs.declared.backend.notice.NoticeKind.TheVariants as kinds
 
@@ -14,7 +14,7 @@ abbrev pub notice_tag : NoticeKind → ℕ
 notice_tag kinds.Error = backend_tag formats.ErrorResponse
 notice_tag kinds.Notice = backend_tag formats.NoticeResponse
 
-abbrev pub field_of : NoticeFieldText → Field
+abbrev pub field_of : OutboundNoticeField → Field
 field_of field = (field.letter, field.text.now)
 
 -- it would end the fields, or its text early

@@ -2,10 +2,10 @@
 use Rattle.std.specs.Prelude.{◌≡◌, ◌^◌, ◌<◌}
 use Rattle.pg_format.specs.Format.Parts.{FitsSigned}
 use Rattle.pg_format.specs.Messages as page
-use Rattle.pg_server.specs.declared.backend.row_description.ColumnText.{ColumnText}
+use Rattle.pg_server.specs.declared.backend.row_description.OutboundColumn.{OutboundColumn}
 
 -- 0 is the number of no table, and of no attribute of one
-abbrev pub column_of : ColumnText → page.Column
+abbrev pub column_of : OutboundColumn → page.Column
 column_of column = record {
   name = column.name.now;
   relation_id = page.table column.table.0;

@@ -4,8 +4,8 @@ ghost use Rattle.std.specs.Prelude.{◌≡◌};
 ghost use Rattle.pg_server.specs.Backend.Authentication.{request_of};
 ghost use Rattle.pg_server.specs.Backend.Message as messages;
 
-use crate::backend::BackendText;
-use crate::backend::item::Items;
+use crate::backend::OutboundMessage;
+use crate::backend::outbound_item::OutboundItems;
 use crate::backend::sasl::{Mechanisms, SASL};
 use pg_base::ProtocolFault;
 use pg_base::io::Sink;
@@ -36,7 +36,7 @@ const SASL_FINAL: u32 = 12;
 /// What a client is asked for, or that it needs no more. Documentation: "Message Formats",
 /// AuthenticationOk (B) and those after it.
 #[derive(Drop)]
-pub enum AuthenticationText<'a> {
+pub enum OutboundAuthentication<'a> {
     /// The client is who it says.
     Ok,
     /// Kerberos V5, as servers before version 9.4 ask.
@@ -65,7 +65,7 @@ pub enum AuthenticationText<'a> {
 /// What follows the number of a method: a salt, the names of mechanisms, or other bytes.
 pub type Asked<'a> = Either<Slice<'a>, Either<Salt, Mechanisms<'a, &'a [u8]>>>;
 
-impl<'a> BackendText for AuthenticationText<'a> {
+impl<'a> OutboundMessage for OutboundAuthentication<'a> {
     type Body = Then<Number32, Asked<'a>>;
 
     ghost message = { λ request. messages.Authentication (request_of request) };
@@ -78,27 +78,30 @@ impl<'a> BackendText for AuthenticationText<'a> {
     fn parts(&self) -> Self::Body {
         let nothing = Either::First(Slice(&[]));
         match self {
-            AuthenticationText::Ok => Then(Number32(OK), nothing),
-            AuthenticationText::KerberosV5 => Then(Number32(KERBEROS_V5), nothing),
-            AuthenticationText::CleartextPassword => Then(Number32(CLEARTEXT_PASSWORD), nothing),
-            AuthenticationText::Md5Password(salt) => Then(
+            OutboundAuthentication::Ok => Then(Number32(OK), nothing),
+            OutboundAuthentication::KerberosV5 => Then(Number32(KERBEROS_V5), nothing),
+            OutboundAuthentication::CleartextPassword => Then(
+                Number32(CLEARTEXT_PASSWORD),
+                nothing,
+            ),
+            OutboundAuthentication::Md5Password(salt) => Then(
                 Number32(MD5_PASSWORD),
                 Either::Second(Either::First(Salt(*salt))),
             ),
-            AuthenticationText::ScmCredential => Then(Number32(SCM_CREDENTIAL), nothing),
-            AuthenticationText::Gss => Then(Number32(GSS), nothing),
-            AuthenticationText::GssContinue(content) => {
+            OutboundAuthentication::ScmCredential => Then(Number32(SCM_CREDENTIAL), nothing),
+            OutboundAuthentication::Gss => Then(Number32(GSS), nothing),
+            OutboundAuthentication::GssContinue(content) => {
                 Then(Number32(GSS_CONTINUE), Either::First(Slice(content)))
             }
-            AuthenticationText::Sspi => Then(Number32(SSPI), nothing),
-            AuthenticationText::Sasl(names) => {
-                let names = ThenFirst(Items(PhantomData, *names), Byte(0));
+            OutboundAuthentication::Sspi => Then(Number32(SSPI), nothing),
+            OutboundAuthentication::Sasl(names) => {
+                let names = ThenFirst(OutboundItems(PhantomData, *names), Byte(0));
                 Then(Number32(SASL), Either::Second(Either::Second(names)))
             }
-            AuthenticationText::SaslContinue(content) => {
+            OutboundAuthentication::SaslContinue(content) => {
                 Then(Number32(SASL_CONTINUE), Either::First(Slice(content)))
             }
-            AuthenticationText::SaslFinal(content) => {
+            OutboundAuthentication::SaslFinal(content) => {
                 Then(Number32(SASL_FINAL), Either::First(Slice(content)))
             }
         }

@@ -2,7 +2,7 @@
 
 ghost use Rattle.pg_server.specs.Backend.Message.{key_data_of};
 
-use crate::backend::BackendText;
+use crate::backend::OutboundMessage;
 use pg_base::ProtocolFault;
 use pg_base::io::Sink;
 use pg_base::io::part::{Number32, Part, Then};
@@ -15,7 +15,7 @@ const MAX_KEY: usize = 256;
 /// The process that serves this connection, and the secret that a request to cancel its work has to
 /// name too. Documentation: "Message Formats", BackendKeyData (B).
 #[derive(Drop)]
-pub struct BackendKeyDataText<'a> {
+pub struct OutboundBackendKeyData<'a> {
     /// The process.
     pub process_id: u32,
     /// The secret: 4 bytes in protocol 3.0, up to 256 from 3.2 on. Another length is refused with
@@ -23,7 +23,7 @@ pub struct BackendKeyDataText<'a> {
     pub secret_key: &'a [u8],
 }
 
-impl<'a> BackendText for BackendKeyDataText<'a> {
+impl<'a> OutboundMessage for OutboundBackendKeyData<'a> {
     type Body = Then<Number32, Key<'a>>;
 
     ghost message = { λ key. key_data_of key.process_id key.secret_key.now };
@@ -43,7 +43,7 @@ impl<'a> BackendText for BackendKeyDataText<'a> {
 pub struct Key<'a>(pub &'a [u8]);
 
 impl Part for Key<'_> {
-    ghost use Rattle.pg_server.specs.Backend.Item.{key_part};
+    ghost use Rattle.pg_server.specs.Backend.OutboundItem.{key_part};
 
     ghost part = { λ it. key_part it.0.now };
 

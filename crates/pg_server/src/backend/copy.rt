@@ -3,8 +3,8 @@
 ghost use Rattle.std.specs.Prelude.{false};
 ghost use Rattle.pg_server.specs.Backend.Message as messages;
 
-use crate::backend::BackendText;
-use crate::backend::item::{Item, Items, too_many};
+use crate::backend::OutboundMessage;
+use crate::backend::outbound_item::{OutboundItem, OutboundItems, too_many};
 use pg_base::ProtocolFault;
 use pg_base::io::Sink;
 use pg_base::io::part::{Byte, Number16, Part, Slice, Then};
@@ -28,7 +28,7 @@ pub enum CopyDirection {
 /// refused with `TooMany`. Documentation: "Message Formats", CopyInResponse (B), CopyOutResponse (B) and
 /// CopyBothResponse (B).
 #[derive(Drop)]
-pub struct CopyResponseText<'a> {
+pub struct OutboundCopyResponse<'a> {
     /// Which of the three messages it is.
     pub direction: CopyDirection,
     /// The format of the data as a whole.
@@ -37,8 +37,8 @@ pub struct CopyResponseText<'a> {
     pub format_codes: &'a [i16],
 }
 
-impl<'a> BackendText for CopyResponseText<'a> {
-    type Body = Then<Byte, Then<ColumnCount, Items<'a, i16, i16>>>;
+impl<'a> OutboundMessage for OutboundCopyResponse<'a> {
+    type Body = Then<Byte, Then<ColumnCount, OutboundItems<'a, i16, i16>>>;
 
     ghost message = { λ it. messages.CopyResponse it.direction it.format it.format_codes.now };
 
@@ -49,7 +49,7 @@ impl<'a> BackendText for CopyResponseText<'a> {
     #[inline(always)]
     fn parts(&self) -> Self::Body {
         let count = ColumnCount(self.format_codes.len());
-        let columns = Then(count, Items(PhantomData, self.format_codes));
+        let columns = Then(count, OutboundItems(PhantomData, self.format_codes));
         Then(Byte(self.format.cast_unsigned()), columns)
     }
 }
@@ -59,7 +59,7 @@ impl<'a> BackendText for CopyResponseText<'a> {
 pub struct ColumnCount(pub usize);
 
 impl Part for ColumnCount {
-    ghost use Rattle.pg_server.specs.Backend.Item.{count_part, max_signed};
+    ghost use Rattle.pg_server.specs.Backend.OutboundItem.{count_part, max_signed};
 
     ghost part = { λ it. count_part max_signed it.0 };
 
@@ -79,7 +79,7 @@ impl Part for ColumnCount {
     }
 }
 
-impl Item for i16 {
+impl OutboundItem for i16 {
     type Parts = Number16;
 
     ghost use Rattle.std.specs.Prelude.{ℤ};
@@ -104,9 +104,9 @@ impl Item for i16 {
 
 /// A part of the stream of a COPY. Documentation: "Message Formats", CopyData (F & B).
 #[derive(Drop)]
-pub struct CopyDataText<'a>(pub &'a [u8]);
+pub struct OutboundCopyData<'a>(pub &'a [u8]);
 
-impl<'a> BackendText for CopyDataText<'a> {
+impl<'a> OutboundMessage for OutboundCopyData<'a> {
     type Body = Slice<'a>;
 
     ghost message = { λ copied. messages.CopyData copied.0.now };

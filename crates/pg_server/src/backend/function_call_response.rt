@@ -3,17 +3,17 @@
 ghost use Rattle.std.specs.Prelude.{option_copied};
 ghost use Rattle.pg_server.specs.Backend.Message as messages;
 
-use crate::backend::BackendText;
+use crate::backend::OutboundMessage;
 use pg_format::value::Value;
 
 /// The result of a function that was called, `None` for NULL. Documentation: "Message Formats",
 /// FunctionCallResponse (B).
 #[derive(Drop)]
-pub struct FunctionCallResponseText<'a> {
+pub struct OutboundFunctionCallResponse<'a> {
     pub value: Option<&'a [u8]>,
 }
 
-impl<'a> BackendText for FunctionCallResponseText<'a> {
+impl<'a> OutboundMessage for OutboundFunctionCallResponse<'a> {
     type Body = Value<'a>;
 
     ghost message = { λ response. messages.FunctionCallResponse (option_copied response.value) };

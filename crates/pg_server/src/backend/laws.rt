@@ -3,12 +3,12 @@
 ghost use Rattle.std.specs.Prelude.{◌≡◌, None};
 ghost use Rattle.pg_server.specs.declared.backend.copy.CopyDirection.{CopyDirection};
 ghost use Rattle.pg_server.specs.declared.backend.notice.NoticeKind.{NoticeKind};
-ghost use Rattle.pg_server.specs.declared.backend.no_body.NoBodyText.{NoBodyText};
-ghost use Rattle.pg_server.specs.declared.backend.ready_for_query.ReadyForQueryText.{ReadyForQueryText};
+ghost use Rattle.pg_server.specs.declared.backend.no_body.OutboundNoBody.{OutboundNoBody};
+ghost use Rattle.pg_server.specs.declared.backend.ready_for_query.OutboundReadyForQuery.{OutboundReadyForQuery};
 ghost use Rattle.pg_server.specs.Backend.Message.{Message, fault, IsInRange, IsRead};
 ghost use Rattle.pg_base.specs.Derived.{IsEqualByValue, IsClonedByValue};
 
-use crate::backend::{CopyDirection, NoBodyText, NoticeKind, ReadyForQueryText};
+use crate::backend::{CopyDirection, NoticeKind, OutboundNoBody, OutboundReadyForQuery};
 
 /// What a message without a fault says is what the page of all messages means by its body, and nothing
 /// else: where a reader asks for UTF-8, or tests what it reads, if it passes.
@@ -21,14 +21,14 @@ pub fn own_messages_are_read()
 pub fn values_are_equal_where_they_are_the_same()
     ensures directions { IsEqualByValue ⟦<CopyDirection as PartialEq>⟧.eq }
     ensures notices { IsEqualByValue ⟦<NoticeKind as PartialEq>⟧.eq }
-    ensures bodies { IsEqualByValue ⟦<NoBodyText as PartialEq>⟧.eq }
-    ensures statuses { IsEqualByValue ⟦<ReadyForQueryText as PartialEq>⟧.eq }
+    ensures bodies { IsEqualByValue ⟦<OutboundNoBody as PartialEq>⟧.eq }
+    ensures statuses { IsEqualByValue ⟦<OutboundReadyForQuery as PartialEq>⟧.eq }
 {}
 
 /// A clone is the value that was cloned.
 pub fn clones_are_equal()
     ensures directions { IsClonedByValue ⟦<CopyDirection as Clone>⟧.is_clone }
     ensures notices { IsClonedByValue ⟦<NoticeKind as Clone>⟧.is_clone }
-    ensures bodies { IsClonedByValue ⟦<NoBodyText as Clone>⟧.is_clone }
-    ensures statuses { IsClonedByValue ⟦<ReadyForQueryText as Clone>⟧.is_clone }
+    ensures bodies { IsClonedByValue ⟦<OutboundNoBody as Clone>⟧.is_clone }
+    ensures statuses { IsClonedByValue ⟦<OutboundReadyForQuery as Clone>⟧.is_clone }
 {}

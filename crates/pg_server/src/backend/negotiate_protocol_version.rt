@@ -1,10 +1,10 @@
 //! What of the protocol the server doesn't speak.
 
-ghost use Rattle.pg_server.specs.Backend.Item.{said};
+ghost use Rattle.pg_server.specs.Backend.OutboundItem.{said};
 ghost use Rattle.pg_server.specs.Backend.Message.{negotiation_of};
 
-use crate::backend::BackendText;
-use crate::backend::item::{AsItem, Items};
+use crate::backend::OutboundMessage;
+use crate::backend::outbound_item::{AsOutboundItem, OutboundItems};
 use pg_base::ProtocolFault;
 use pg_base::io::Sink;
 use pg_base::io::part::{Number16, Part, Then};
@@ -16,14 +16,14 @@ const MAJOR: u16 = 3;
 /// The server speaks an older minor version than the client asked for, or doesn't know some of its
 /// options. Documentation: "Message Formats", NegotiateProtocolVersion (B).
 #[derive(Drop)]
-pub struct NegotiateProtocolVersionText<'a, N = &'a [u8]> {
+pub struct OutboundNegotiateProtocolVersion<'a, N = &'a [u8]> {
     /// The newest minor version of the protocol's version 3 that the server speaks.
     pub minor: u16,
     /// The names of the options that it doesn't know. A NUL in one is refused with `TextHoldsNul`.
     pub options: &'a [N],
 }
 
-impl<'a, N: AsItem<&'a [u8]>> BackendText for NegotiateProtocolVersionText<'a, N> {
+impl<'a, N: AsOutboundItem<&'a [u8]>> OutboundMessage for OutboundNegotiateProtocolVersion<'a, N> {
     type Body = Then<Then<Number16, Number16>, Options<'a, N>>;
 
     ghost message = { λ it. negotiation_of it.minor (said N.item (λ n. n.now) it.options.now) };
@@ -35,16 +35,16 @@ impl<'a, N: AsItem<&'a [u8]>> BackendText for NegotiateProtocolVersionText<'a, N
     #[inline(always)]
     fn parts(&self) -> Self::Body {
         let version = Then(Number16(MAJOR), Number16(self.minor));
-        Then(version, Options(Items(PhantomData, self.options)))
+        Then(version, Options(OutboundItems(PhantomData, self.options)))
     }
 }
 
 /// The names of options after their count. Each has a byte or more, so that they can be counted where their
 /// length can be said.
 #[derive_where(Clone, Copy)]
-pub struct Options<'a, N>(pub Items<'a, &'a [u8], N>);
+pub struct Options<'a, N>(pub OutboundItems<'a, &'a [u8], N>);
 
-impl<'a, N: AsItem<&'a [u8]>> Part for Options<'a, N> {
+impl<'a, N: AsOutboundItem<&'a [u8]>> Part for Options<'a, N> {
     ghost use Rattle.pg_server.specs.Backend.NegotiateProtocolVersion.{options_part};
 
     ghost part = { λ it. options_part (said N.item (λ n. n.now) it.0.1.now) };

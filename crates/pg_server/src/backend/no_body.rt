@@ -2,13 +2,13 @@
 
 ghost use Rattle.pg_server.specs.Backend.Message as messages;
 
-use crate::backend::BackendText;
-use pg_base::io::part::Nothing;
+use crate::backend::OutboundMessage;
+use pg_base::io::part::NoBytes;
 
 /// A message without a body. As a number it is the tag. Documentation: "Message Formats", the messages
 /// of these names marked (B).
 #[derive(Clone, Copy, Debug, PartialEq, Eq)]
-pub enum NoBodyText {
+pub enum OutboundNoBody {
     ParseComplete = b'1' as isize,
     BindComplete = b'2' as isize,
     CloseComplete = b'3' as isize,
@@ -18,8 +18,8 @@ pub enum NoBodyText {
     PortalSuspended = b's' as isize,
 }
 
-impl BackendText for NoBodyText {
-    type Body = Nothing;
+impl OutboundMessage for OutboundNoBody {
+    type Body = NoBytes;
 
     ghost message = { messages.NoBody };
 
@@ -28,7 +28,7 @@ impl BackendText for NoBodyText {
     }
 
     #[inline(always)]
-    fn parts(&self) -> Nothing {
-        Nothing
+    fn parts(&self) -> NoBytes {
+        NoBytes
     }
 }

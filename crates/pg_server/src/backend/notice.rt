@@ -1,11 +1,11 @@
 //! Errors and notices.
 
-ghost use Rattle.pg_server.specs.Backend.Item.{said};
+ghost use Rattle.pg_server.specs.Backend.OutboundItem.{said};
 ghost use Rattle.pg_server.specs.Backend.Message as messages;
 ghost use Rattle.pg_server.specs.Backend.Notice.{field_of};
 
-use crate::backend::BackendText;
-use crate::backend::item::{AsItem, Item, Items, nul_fault};
+use crate::backend::OutboundMessage;
+use crate::backend::outbound_item::{AsOutboundItem, OutboundItem, OutboundItems, nul_fault};
 use crate::backend::text::NulEnded;
 use pg_base::ProtocolFault;
 use pg_base::io::Sink;
@@ -23,7 +23,7 @@ pub enum NoticeKind {
 
 /// A field of an error or a notice. Documentation: "Error and Notice Message Fields".
 #[derive(Clone, Copy, Drop)]
-pub struct NoticeFieldText<'a> {
+pub struct OutboundNoticeField<'a> {
     /// The letter of what the field says. A 0 is refused with `TextHoldsNul`, since it would end the
     /// fields.
     pub letter: u8,
@@ -34,15 +34,15 @@ pub struct NoticeFieldText<'a> {
 /// An error or a notice, by its fields in order. Documentation: "Message Formats", ErrorResponse (B) and
 /// NoticeResponse (B).
 #[derive(Drop)]
-pub struct NoticeText<'a, F = NoticeFieldText<'a>> {
+pub struct OutboundNotice<'a, F = OutboundNoticeField<'a>> {
     /// Which of the two messages it is.
     pub kind: NoticeKind,
     /// The fields: a client asks for a severity, a code and a message.
     pub fields: &'a [F],
 }
 
-impl<'a, F: AsItem<NoticeFieldText<'a>>> BackendText for NoticeText<'a, F> {
-    type Body = ThenFirst<Items<'a, NoticeFieldText<'a>, F>, Byte>;
+impl<'a, F: AsOutboundItem<OutboundNoticeField<'a>>> OutboundMessage for OutboundNotice<'a, F> {
+    type Body = ThenFirst<OutboundItems<'a, OutboundNoticeField<'a>, F>, Byte>;
 
     ghost message = { λ it. messages.Notice it.kind (said F.item field_of it.fields.now) };
 
@@ -52,11 +52,11 @@ impl<'a, F: AsItem<NoticeFieldText<'a>>> BackendText for NoticeText<'a, F> {
 
     #[inline(always)]
     fn parts(&self) -> Self::Body {
-        ThenFirst(Items(PhantomData, self.fields), Byte(0))
+        ThenFirst(OutboundItems(PhantomData, self.fields), Byte(0))
     }
 }
 
-impl<'a> Item for NoticeFieldText<'a> {
+impl<'a> OutboundItem for OutboundNoticeField<'a> {
     type Parts = Then<Letter, NulEnded<'a>>;
 
     ghost use Rattle.std.specs.Prelude.{◌<◌};

@@ -2,14 +2,14 @@
 
 ghost use Rattle.pg_server.specs.Backend.Message.{notification_of};
 
-use crate::backend::BackendText;
+use crate::backend::OutboundMessage;
 use crate::backend::text::NulEnded;
 use pg_base::io::part::{Number32, Then};
 
 /// What a session was notified of. A NUL in a text is refused with `TextHoldsNul`. Documentation:
 /// "Message Formats", NotificationResponse (B).
 #[derive(Drop)]
-pub struct NotificationText<'a> {
+pub struct OutboundNotification<'a> {
     /// The process that notified.
     pub process_id: u32,
     /// The channel.
@@ -18,7 +18,7 @@ pub struct NotificationText<'a> {
     pub payload: &'a [u8],
 }
 
-impl<'a> BackendText for NotificationText<'a> {
+impl<'a> OutboundMessage for OutboundNotification<'a> {
     type Body = Then<Number32, Then<NulEnded<'a>, NulEnded<'a>>>;
 
     ghost message = { λ it. notification_of it.process_id it.channel.now it.payload.now };

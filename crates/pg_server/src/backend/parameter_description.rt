@@ -1,11 +1,11 @@
 //! The types of the parameters of a statement.
 
 ghost use Rattle.std.specs.Prelude.{false};
-ghost use Rattle.pg_server.specs.Backend.Item.{said};
+ghost use Rattle.pg_server.specs.Backend.OutboundItem.{said};
 ghost use Rattle.pg_server.specs.Backend.Message as messages;
 
-use crate::backend::BackendText;
-use crate::backend::item::{AsItem, Count, Counted, Item, Items};
+use crate::backend::OutboundMessage;
+use crate::backend::outbound_item::{AsOutboundItem, Count, Counted, OutboundItem, OutboundItems};
 use pg_base::io::Oid;
 use pg_base::io::part::{Number32, Then};
 use std::marker::PhantomData;
@@ -13,11 +13,11 @@ use std::marker::PhantomData;
 /// The types of the parameters of a statement. More than 65535 are refused with `TooMany`.
 /// Documentation: "Message Formats", ParameterDescription (B).
 #[derive(Drop)]
-pub struct ParameterDescriptionText<'a, T = Oid> {
+pub struct OutboundParameterDescription<'a, T = Oid> {
     pub types: &'a [T],
 }
 
-impl<'a, T: AsItem<Oid>> BackendText for ParameterDescriptionText<'a, T> {
+impl<'a, T: AsOutboundItem<Oid>> OutboundMessage for OutboundParameterDescription<'a, T> {
     type Body = Counted<'a, Oid, T>;
 
     ghost message = { λ it. messages.ParameterDescription (said T.item (λ n. n.0) it.types.now) };
@@ -28,11 +28,14 @@ impl<'a, T: AsItem<Oid>> BackendText for ParameterDescriptionText<'a, T> {
 
     #[inline(always)]
     fn parts(&self) -> Self::Body {
-        Then(Count(self.types.len()), Items(PhantomData, self.types))
+        Then(
+            Count(self.types.len()),
+            OutboundItems(PhantomData, self.types),
+        )
     }
 }
 
-impl Item for Oid {
+impl OutboundItem for Oid {
     type Parts = Number32;
 
     ghost use Rattle.std.specs.Prelude.{ℕ, ◌^◌, ◌<◌};
@@ -55,7 +58,7 @@ impl Item for Oid {
 }
 
 /// An id by its number.
-impl AsItem<Oid> for u32 {
+impl AsOutboundItem<Oid> for u32 {
     ghost use Rattle.pg_base.specs.declared.io.Oid.{Oid};
 
     ghost item = { λ number. record { 0 = number } };

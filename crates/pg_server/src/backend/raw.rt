@@ -2,19 +2,19 @@
 
 ghost use Rattle.pg_server.specs.Backend.Message as messages;
 
-use crate::backend::BackendText;
+use crate::backend::OutboundMessage;
 use pg_base::io::part::Slice;
 
 /// Any tag and any body: what only passes through, or what this layer doesn't know.
 #[derive(Drop)]
-pub struct RawText<'a> {
+pub struct OutboundRaw<'a> {
     /// The tag.
     pub tag: u8,
     /// The body, without tag and length.
     pub body: &'a [u8],
 }
 
-impl<'a> BackendText for RawText<'a> {
+impl<'a> OutboundMessage for OutboundRaw<'a> {
     type Body = Slice<'a>;
 
     ghost message = { λ raw. messages.Raw raw.tag raw.body.now };

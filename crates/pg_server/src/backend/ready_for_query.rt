@@ -2,13 +2,13 @@
 
 ghost use Rattle.pg_server.specs.Backend.Message as messages;
 
-use crate::backend::BackendText;
+use crate::backend::OutboundMessage;
 use pg_base::io::part::Byte;
 
 /// The server is ready for the next query. As a number it is the letter of the message. Documentation:
 /// "Message Formats", ReadyForQuery (B).
 #[derive(Clone, Copy, Debug, PartialEq, Eq)]
-pub enum ReadyForQueryText {
+pub enum OutboundReadyForQuery {
     /// No transaction is open.
     Idle = b'I' as isize,
     /// One is open.
@@ -17,7 +17,7 @@ pub enum ReadyForQueryText {
     Error = b'E' as isize,
 }
 
-impl BackendText for ReadyForQueryText {
+impl OutboundMessage for OutboundReadyForQuery {
     type Body = Byte;
 
     ghost message = { messages.ReadyForQuery };

@@ -1,11 +1,11 @@
 //! The columns of a result.
 
-ghost use Rattle.pg_server.specs.Backend.Item.{said};
+ghost use Rattle.pg_server.specs.Backend.OutboundItem.{said};
 ghost use Rattle.pg_server.specs.Backend.Message as messages;
 ghost use Rattle.pg_server.specs.Backend.RowDescription.{column_of};
 
-use crate::backend::BackendText;
-use crate::backend::item::{AsItem, Count, Counted, Item, Items};
+use crate::backend::OutboundMessage;
+use crate::backend::outbound_item::{AsOutboundItem, Count, Counted, OutboundItem, OutboundItems};
 use crate::backend::text::NulEnded;
 use pg_base::io::Oid;
 use pg_base::io::part::{Number16, Number32, Then, ThenFirst};
@@ -13,7 +13,7 @@ use std::marker::PhantomData;
 
 /// A column of a result. Documentation: "Message Formats", RowDescription (B).
 #[derive(Clone, Copy, Drop)]
-pub struct ColumnText<'a> {
+pub struct OutboundColumn<'a> {
     /// Its name. A NUL is refused with `TextHoldsNul`.
     pub name: &'a [u8],
     /// The table that it is of, 0 for none.
@@ -33,12 +33,12 @@ pub struct ColumnText<'a> {
 /// The columns of a result. More than 65535 are refused with `TooMany`. Documentation: "Message
 /// Formats", RowDescription (B).
 #[derive(Drop)]
-pub struct RowDescriptionText<'a, C = ColumnText<'a>> {
+pub struct OutboundRowDescription<'a, C = OutboundColumn<'a>> {
     pub columns: &'a [C],
 }
 
-impl<'a, C: AsItem<ColumnText<'a>>> BackendText for RowDescriptionText<'a, C> {
-    type Body = Counted<'a, ColumnText<'a>, C>;
+impl<'a, C: AsOutboundItem<OutboundColumn<'a>>> OutboundMessage for OutboundRowDescription<'a, C> {
+    type Body = Counted<'a, OutboundColumn<'a>, C>;
 
     ghost message = { λ it. messages.RowDescription (said C.item column_of it.columns.now) };
 
@@ -48,18 +48,21 @@ impl<'a, C: AsItem<ColumnText<'a>>> BackendText for RowDescriptionText<'a, C> {
 
     #[inline(always)]
     fn parts(&self) -> Self::Body {
-        Then(Count(self.columns.len()), Items(PhantomData, self.columns))
+        Then(
+            Count(self.columns.len()),
+            OutboundItems(PhantomData, self.columns),
+        )
     }
 }
 
 /// The parts of a column from its type on: the number, the size and the modifier of the type, and the format.
 pub type TypeParts = Then<Number32, Then<Number16, Then<Number32, Number16>>>;
 
-impl<'a> Item for ColumnText<'a> {
+impl<'a> OutboundItem for OutboundColumn<'a> {
     type Parts = ThenFirst<NulEnded<'a>, Then<Number32, Then<Number16, TypeParts>>>;
 
     ghost use Rattle.pg_format.specs.Messages as page;
-    ghost use Rattle.pg_server.specs.Backend.Item as items;
+    ghost use Rattle.pg_server.specs.Backend.OutboundItem as items;
     ghost use Rattle.pg_server.specs.Backend.RowDescription.{column_of, IsColumnInRange};
 
     ghost Value = { page.Column };

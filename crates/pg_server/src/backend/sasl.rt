@@ -1,10 +1,10 @@
 //! The mechanisms by which a client may say who it is.
 
-ghost use Rattle.pg_server.specs.Backend.Item.{said};
+ghost use Rattle.pg_server.specs.Backend.OutboundItem.{said};
 ghost use Rattle.pg_server.specs.Backend.Message.{sasl_offer_of};
 
-use crate::backend::BackendText;
-use crate::backend::item::{AsItem, Item, Items, nul_fault};
+use crate::backend::OutboundMessage;
+use crate::backend::outbound_item::{AsOutboundItem, OutboundItem, OutboundItems, nul_fault};
 use crate::backend::text::holds_nul;
 use pg_base::ProtocolFault;
 use pg_base::io::part::{Byte, Number32, Part, Then, ThenFirst};
@@ -14,20 +14,20 @@ use std::marker::PhantomData;
 /// The number of the method.
 pub(crate) const SASL: u32 = 10;
 
-/// An exchange of SASL by one of these mechanisms, the best first, as [`AuthenticationText`] has it. A name
+/// An exchange of SASL by one of these mechanisms, the best first, as [`OutboundAuthentication`] has it. A name
 /// that is empty or holds a NUL is refused with `TextHoldsNul`. Documentation: "Message Formats",
 /// AuthenticationSASL (B).
 ///
-/// [`AuthenticationText`]: crate::backend::AuthenticationText
+/// [`OutboundAuthentication`]: crate::backend::OutboundAuthentication
 #[derive(Drop)]
-pub struct SaslText<'a, N = &'a [u8]> {
+pub struct OutboundSasl<'a, N = &'a [u8]> {
     pub mechanisms: &'a [N],
 }
 
 /// The names of mechanisms, and the byte that ends them.
-pub type Mechanisms<'a, N> = ThenFirst<Items<'a, Mechanism<'a>, N>, Byte>;
+pub type Mechanisms<'a, N> = ThenFirst<OutboundItems<'a, Mechanism<'a>, N>, Byte>;
 
-impl<'a, N: AsItem<Mechanism<'a>>> BackendText for SaslText<'a, N> {
+impl<'a, N: AsOutboundItem<Mechanism<'a>>> OutboundMessage for OutboundSasl<'a, N> {
     type Body = Then<Number32, Mechanisms<'a, N>>;
 
     ghost message = { λ it. sasl_offer_of (said N.item (λ n. n.0.now) it.mechanisms.now) };
@@ -38,7 +38,7 @@ impl<'a, N: AsItem<Mechanism<'a>>> BackendText for SaslText<'a, N> {
 
     #[inline(always)]
     fn parts(&self) -> Self::Body {
-        let names = ThenFirst(Items(PhantomData, self.mechanisms), Byte(0));
+        let names = ThenFirst(OutboundItems(PhantomData, self.mechanisms), Byte(0));
         Then(Number32(SASL), names)
     }
 }
@@ -48,7 +48,7 @@ impl<'a, N: AsItem<Mechanism<'a>>> BackendText for SaslText<'a, N> {
 #[derive(Clone, Copy)]
 pub struct Mechanism<'a>(pub &'a [u8]);
 
-impl<'a> AsItem<Mechanism<'a>> for &'a [u8] {
+impl<'a> AsOutboundItem<Mechanism<'a>> for &'a [u8] {
     ghost use Rattle.pg_server.specs.declared.backend.sasl.Mechanism.{Mechanism};
 
     ghost item = { λ name. record { 0 = name } };
@@ -59,12 +59,12 @@ impl<'a> AsItem<Mechanism<'a>> for &'a [u8] {
     }
 }
 
-impl<'a> Item for Mechanism<'a> {
+impl<'a> OutboundItem for Mechanism<'a> {
     type Parts = Mechanism<'a>;
 
     ghost use Rattle.std.specs.Prelude.{ℕ, List};
     ghost use Rattle.pg_format.specs.Format.Parts.{until_nul};
-    ghost use Rattle.pg_server.specs.Backend.Item.{breaks_names};
+    ghost use Rattle.pg_server.specs.Backend.OutboundItem.{breaks_names};
 
     ghost Value = { List ℕ };
 
@@ -83,7 +83,7 @@ impl<'a> Item for Mechanism<'a> {
 }
 
 impl Part for Mechanism<'_> {
-    ghost use Rattle.pg_server.specs.Backend.Item.{name_part};
+    ghost use Rattle.pg_server.specs.Backend.OutboundItem.{name_part};
 
     ghost part = { λ it. name_part it.0.now };
 

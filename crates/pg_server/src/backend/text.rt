@@ -1,9 +1,9 @@
 //! Texts that a NUL ends, and that hold no other.
 
 ghost use Rattle.std.specs.Prelude.{◌≡◌};
-ghost use Rattle.pg_server.specs.Backend.Item.{holds_nul, text_part};
+ghost use Rattle.pg_server.specs.Backend.OutboundItem.{holds_nul, text_part};
 
-use crate::backend::item::{Item, nul_fault};
+use crate::backend::outbound_item::{OutboundItem, nul_fault};
 use pg_base::ProtocolFault;
 use pg_base::io::part::Part;
 use pg_base::io::{Ended, Sink};
@@ -50,12 +50,12 @@ impl<'a> items::Item<'a> for NulEnded<'a> {
     }
 }
 
-impl<'a> Item for &'a [u8] {
+impl<'a> OutboundItem for &'a [u8] {
     type Parts = NulEnded<'a>;
 
     ghost use Rattle.std.specs.Prelude.{ℕ, List};
     ghost use Rattle.pg_format.specs.Format.Parts.{until_nul};
-    ghost use Rattle.pg_server.specs.Backend.Item as items;
+    ghost use Rattle.pg_server.specs.Backend.OutboundItem as items;
 
     ghost Value = { List ℕ };
 

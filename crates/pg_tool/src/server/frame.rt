@@ -3,9 +3,10 @@
 use crate::server::reply::{Column, Field, Negotiation, Notice, Reply, Request};
 use pg_base::Error;
 use pg_server::backend::{
-    AuthenticationText, ColumnText, CommandCompleteText, CopyDataText, DataRowText,
-    FunctionCallResponseText, NegotiateProtocolVersionText, NoticeFieldText, NoticeText,
-    ParameterDescriptionText, RowDescriptionText, encode,
+    OutboundAuthentication, OutboundColumn, OutboundCommandComplete, OutboundCopyData,
+    OutboundDataRow, OutboundFunctionCallResponse, OutboundNegotiateProtocolVersion,
+    OutboundNotice, OutboundNoticeField, OutboundParameterDescription, OutboundRowDescription,
+    encode,
 };
 use std::alloc::{AllocError, Global};
 
@@ -13,21 +14,21 @@ use std::alloc::{AllocError, Global};
 pub fn push_frame(alloc: Global, reply: &Reply, frames: &mut Vec<u8>) -> Result<(), Error> {
     match reply {
         Reply::Authentication(request) => push_request(alloc, request, frames),
-        Reply::BackendKeyData(key) => encode(&key.text(), frames),
+        Reply::BackendKeyData(key) => encode(&key.outbound(), frames),
         Reply::CommandComplete(command) => push_command(command.as_slice(), frames),
-        Reply::CopyData(bytes) => encode(&CopyDataText(bytes.as_slice()), frames),
-        Reply::CopyResponse(response) => encode(&response.text(), frames),
+        Reply::CopyData(bytes) => encode(&OutboundCopyData(bytes.as_slice()), frames),
+        Reply::CopyResponse(response) => encode(&response.outbound(), frames),
         Reply::DataRow(values) => push_row(alloc, values.as_slice(), frames),
         Reply::FunctionCallResponse(value) => push_result(value, frames),
         Reply::NegotiateProtocolVersion(version) => push_version(alloc, version, frames),
         Reply::NoBody(message) => encode(message, frames),
         Reply::Notice(notice) => push_notice(alloc, notice, frames),
-        Reply::Notification(notification) => encode(&notification.text(), frames),
+        Reply::Notification(notification) => encode(&notification.outbound(), frames),
         Reply::ParameterDescription(types) => {
             let types = types.as_slice();
-            encode(&ParameterDescriptionText { types }, frames)
+            encode(&OutboundParameterDescription { types }, frames)
         }
-        Reply::ParameterStatus(setting) => encode(&setting.text(), frames),
+        Reply::ParameterStatus(setting) => encode(&setting.outbound(), frames),
         Reply::ReadyForQuery(status) => encode(status, frames),
         Reply::RowDescription(columns) => push_columns(alloc, columns.as_slice(), frames),
     }
@@ -35,58 +36,65 @@ pub fn push_frame(alloc: Global, reply: &Reply, frames: &mut Vec<u8>) -> Result<
 
 fn push_request(alloc: Global, request: &Request, frames: &mut Vec<u8>) -> Result<(), Error> {
     match request {
-        Request::Ok => encode(&AuthenticationText::Ok, frames),
-        Request::CleartextPassword => encode(&AuthenticationText::CleartextPassword, frames),
-        Request::Md5Password(salt) => encode(&AuthenticationText::Md5Password(*salt), frames),
+        Request::Ok => encode(&OutboundAuthentication::Ok, frames),
+        Request::CleartextPassword => encode(&OutboundAuthentication::CleartextPassword, frames),
+        Request::Md5Password(salt) => encode(&OutboundAuthentication::Md5Password(*salt), frames),
         Request::Sasl(names) => {
             let names = borrowed(alloc, names.as_slice())?;
-            encode(&AuthenticationText::Sasl(names.as_slice()), frames)
+            encode(&OutboundAuthentication::Sasl(names.as_slice()), frames)
         }
         Request::SaslContinue(content) => {
             encode(
-                &AuthenticationText::SaslContinue(content.as_slice()),
+                &OutboundAuthentication::SaslContinue(content.as_slice()),
                 frames,
             )
         }
         Request::SaslFinal(content) => {
-            encode(&AuthenticationText::SaslFinal(content.as_slice()), frames)
+            encode(
+                &OutboundAuthentication::SaslFinal(content.as_slice()),
+                frames,
+            )
         }
     }
 }
 
 fn push_command(command: &[u8], frames: &mut Vec<u8>) -> Result<(), Error> {
-    encode(&CommandCompleteText { command }, frames)
+    encode(&OutboundCommandComplete { command }, frames)
 }
 
 fn push_row(alloc: Global, values: &[Option<Vec<u8>>], frames: &mut Vec<u8>) -> Result<(), Error> {
     let values: Vec<Option<&[u8]>> = values.iter().map(borrowed_value).collect(alloc)?;
     let values = values.as_slice();
-    encode(&DataRowText { values }, frames)
+    encode(&OutboundDataRow { values }, frames)
 }
 
 fn push_result(value: &Option<Vec<u8>>, frames: &mut Vec<u8>) -> Result<(), Error> {
     let value = borrowed_value(value);
-    encode(&FunctionCallResponseText { value }, frames)
+    encode(&OutboundFunctionCallResponse { value }, frames)
 }
 
 fn push_version(alloc: Global, version: &Negotiation, frames: &mut Vec<u8>) -> Result<(), Error> {
     let minor = version.minor;
     let options = borrowed(alloc, version.options.as_slice())?;
     let options = options.as_slice();
-    encode(&NegotiateProtocolVersionText { minor, options }, frames)
+    encode(&OutboundNegotiateProtocolVersion { minor, options }, frames)
 }
 
 fn push_notice(alloc: Global, notice: &Notice, frames: &mut Vec<u8>) -> Result<(), Error> {
     let kind = notice.kind;
-    let fields: Vec<NoticeFieldText<'_>> = notice.fields.iter().map(Field::text).collect(alloc)?;
+    let fields: Vec<OutboundNoticeField<'_>> = notice
+        .fields
+        .iter()
+        .map(Field::outbound)
+        .collect(alloc)?;
     let fields = fields.as_slice();
-    encode(&NoticeText { kind, fields }, frames)
+    encode(&OutboundNotice { kind, fields }, frames)
 }
 
 fn push_columns(alloc: Global, columns: &[Column], frames: &mut Vec<u8>) -> Result<(), Error> {
-    let columns: Vec<ColumnText<'_>> = columns.iter().map(Column::text).collect(alloc)?;
+    let columns: Vec<OutboundColumn<'_>> = columns.iter().map(Column::outbound).collect(alloc)?;
     let columns = columns.as_slice();
-    encode(&RowDescriptionText { columns }, frames)
+    encode(&OutboundRowDescription { columns }, frames)
 }
 
 fn borrowed_value(value: &Option<Vec<u8>>) -> Option<&[u8]> {

@@ -2,8 +2,9 @@
 
 use pg_base::io::Oid;
 use pg_server::backend::{
-    BackendKeyDataText, ColumnText, CopyDirection, CopyResponseText, NoBodyText, NoticeFieldText,
-    NoticeKind, NotificationText, ParameterStatusText, ReadyForQueryText,
+    CopyDirection, NoticeKind, OutboundBackendKeyData, OutboundColumn, OutboundCopyResponse,
+    OutboundNoBody, OutboundNoticeField, OutboundNotification, OutboundParameterStatus,
+    OutboundReadyForQuery,
 };
 
 /// A message to a client.
@@ -17,12 +18,12 @@ pub enum Reply {
     DataRow(Vec<Option<Vec<u8>>>),
     FunctionCallResponse(Option<Vec<u8>>),
     NegotiateProtocolVersion(Negotiation),
-    NoBody(NoBodyText),
+    NoBody(OutboundNoBody),
     Notice(Notice),
     Notification(Notification),
     ParameterDescription(Vec<Oid>),
     ParameterStatus(Setting),
-    ReadyForQuery(ReadyForQueryText),
+    ReadyForQuery(OutboundReadyForQuery),
     RowDescription(Vec<Column>),
 }
 
@@ -45,8 +46,8 @@ pub struct KeyData {
 }
 
 impl KeyData {
-    pub fn text(&self) -> BackendKeyDataText<'_> {
-        BackendKeyDataText {
+    pub fn outbound(&self) -> OutboundBackendKeyData<'_> {
+        OutboundBackendKeyData {
             process_id: self.process_id,
             secret_key: self.secret_key.as_slice(),
         }
@@ -62,8 +63,8 @@ pub struct CopyResponse {
 }
 
 impl CopyResponse {
-    pub fn text(&self) -> CopyResponseText<'_> {
-        CopyResponseText {
+    pub fn outbound(&self) -> OutboundCopyResponse<'_> {
+        OutboundCopyResponse {
             direction: self.direction,
             format: self.format,
             format_codes: self.format_codes.as_slice(),
@@ -93,8 +94,8 @@ pub struct Field {
 }
 
 impl Field {
-    pub fn text(&self) -> NoticeFieldText<'_> {
-        NoticeFieldText {
+    pub fn outbound(&self) -> OutboundNoticeField<'_> {
+        OutboundNoticeField {
             letter: self.letter,
             text: self.text.as_slice(),
         }
@@ -110,8 +111,8 @@ pub struct Notification {
 }
 
 impl Notification {
-    pub fn text(&self) -> NotificationText<'_> {
-        NotificationText {
+    pub fn outbound(&self) -> OutboundNotification<'_> {
+        OutboundNotification {
             process_id: self.process_id,
             channel: self.channel.as_slice(),
             payload: self.payload.as_slice(),
@@ -127,8 +128,8 @@ pub struct Setting {
 }
 
 impl Setting {
-    pub fn text(&self) -> ParameterStatusText<'_> {
-        ParameterStatusText {
+    pub fn outbound(&self) -> OutboundParameterStatus<'_> {
+        OutboundParameterStatus {
             name: self.name.as_slice(),
             value: self.value.as_slice(),
         }
@@ -148,8 +149,8 @@ pub struct Column {
 }
 
 impl Column {
-    pub fn text(&self) -> ColumnText<'_> {
-        ColumnText {
+    pub fn outbound(&self) -> OutboundColumn<'_> {
+        OutboundColumn {
             name: self.name.as_slice(),
             table: self.table,
             attribute: self.attribute,

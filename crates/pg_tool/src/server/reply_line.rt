@@ -7,7 +7,7 @@ use crate::server::reply::{
     Setting,
 };
 use crate::server::spelling::{Parts, Spelled, Word};
-use pg_server::backend::{CopyDirection, NoBodyText, NoticeKind, ReadyForQueryText};
+use pg_server::backend::{CopyDirection, NoticeKind, OutboundNoBody, OutboundReadyForQuery};
 use std::alloc::Global;
 
 /// The message that a line spells. A line that fits no form has the fault `bad`.
@@ -31,15 +31,15 @@ fn message_of(words: &mut Parts<'_>) -> Result<Reply, Fault> {
 }
 
 // A message without fields, by its name.
-fn without_fields(name: &str) -> Option<NoBodyText> {
+fn without_fields(name: &str) -> Option<OutboundNoBody> {
     match name {
-        "bindcomplete" => Some(NoBodyText::BindComplete),
-        "closecomplete" => Some(NoBodyText::CloseComplete),
-        "copydone" => Some(NoBodyText::CopyDone),
-        "emptyqueryresponse" => Some(NoBodyText::EmptyQueryResponse),
-        "nodata" => Some(NoBodyText::NoData),
-        "parsecomplete" => Some(NoBodyText::ParseComplete),
-        "portalsuspended" => Some(NoBodyText::PortalSuspended),
+        "bindcomplete" => Some(OutboundNoBody::BindComplete),
+        "closecomplete" => Some(OutboundNoBody::CloseComplete),
+        "copydone" => Some(OutboundNoBody::CopyDone),
+        "emptyqueryresponse" => Some(OutboundNoBody::EmptyQueryResponse),
+        "nodata" => Some(OutboundNoBody::NoData),
+        "parsecomplete" => Some(OutboundNoBody::ParseComplete),
+        "portalsuspended" => Some(OutboundNoBody::PortalSuspended),
         _ => None,
     }
 }
@@ -140,9 +140,9 @@ fn notice_of(kind: NoticeKind, words: &mut Parts<'_>) -> Result<Reply, Fault> {
 fn ready_of(words: &mut Parts<'_>) -> Result<Reply, Fault> {
     let status = words.part()?;
     match status.text {
-        "I" => Ok(Reply::ReadyForQuery(ReadyForQueryText::Idle)),
-        "T" => Ok(Reply::ReadyForQuery(ReadyForQueryText::Transaction)),
-        "E" => Ok(Reply::ReadyForQuery(ReadyForQueryText::Error)),
+        "I" => Ok(Reply::ReadyForQuery(OutboundReadyForQuery::Idle)),
+        "T" => Ok(Reply::ReadyForQuery(OutboundReadyForQuery::Transaction)),
+        "E" => Ok(Reply::ReadyForQuery(OutboundReadyForQuery::Error)),
         _ => Err(status.bad),
     }
 }

@@ -7,7 +7,7 @@ use crate::byte_str::ByteStr;
 use crate::error::{Fault, Refusal};
 use crate::value::Value;
 use pgmsg_core::pg_receive::message::{self as received, command_tag, FunctionCallResponseRef};
-use pgmsg_core::pg_server::backend::{FunctionCallResponseText, RawText};
+use pgmsg_core::pg_server::backend::{OutboundFunctionCallResponse, OutboundRaw};
 
 /// Reads the text of a command's tag, without its NUL.
 #[inline]
@@ -53,7 +53,7 @@ impl<'a> FunctionCallResponse<'a> {
     ///
     /// Refused with [`MessageTooLong`](Refusal::MessageTooLong) above 2147483639 bytes.
     pub fn write<B: Buffer>(&self, out: &mut B) -> Result<(), Refusal> {
-        put_answer(&FunctionCallResponseText { value: self.0.bytes() }, out)
+        put_answer(&OutboundFunctionCallResponse { value: self.0.bytes() }, out)
     }
 }
 
@@ -76,7 +76,7 @@ pub struct Other<'a> {
 impl Other<'_> {
     /// Appends the message.
     pub fn write<B: Buffer>(&self, out: &mut B) -> Result<(), Refusal> {
-        put_answer(&RawText { tag: self.tag, body: &self.body }, out)
+        put_answer(&OutboundRaw { tag: self.tag, body: &self.body }, out)
     }
 }
 

@@ -9,7 +9,7 @@ use core::iter;
 use pgmsg_core::pg_base::io::part::{Number32, Slice, Then};
 use pgmsg_core::pg_base::io::u32_at;
 use pgmsg_core::pg_receive::message::{split_raw_name, RawAuthentication};
-use pgmsg_core::pg_server::backend::SaslText;
+use pgmsg_core::pg_server::backend::OutboundSasl;
 
 /// The bytes of the number of a method.
 const METHOD: usize = 4;
@@ -105,7 +105,9 @@ impl<'a> Authentication<'a> {
             | Authentication::Gss
             | Authentication::Sspi => b"",
             Authentication::Md5Password(salt) => &salt[..],
-            Authentication::Sasl(mechanisms) => return put_answer(&SaslText { mechanisms }, out),
+            Authentication::Sasl(mechanisms) => {
+                return put_answer(&OutboundSasl { mechanisms }, out)
+            }
             Authentication::GssContinue(data)
             | Authentication::SaslContinue(data)
             | Authentication::SaslFinal(data)

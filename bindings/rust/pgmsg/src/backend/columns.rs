@@ -11,7 +11,7 @@ use alloc::vec::Vec;
 use pgmsg_core::pg_base::io::{self, part::Number32};
 use pgmsg_core::pg_format::items::Items;
 use pgmsg_core::pg_receive::message::{ColumnReader, RawFieldRef};
-use pgmsg_core::pg_server::backend::{AsItem, ColumnText, RowDescriptionText};
+use pgmsg_core::pg_server::backend::{AsOutboundItem, OutboundColumn, OutboundRowDescription};
 
 /// The bytes of the number of a type.
 const OID: usize = 4;
@@ -72,9 +72,9 @@ impl<'a> From<RawFieldRef<'a>> for Column<'a> {
 }
 
 /// As it is written.
-impl<'a> AsItem<ColumnText<'a>> for Column<'a> {
-    fn as_item(&self) -> ColumnText<'a> {
-        ColumnText {
+impl<'a> AsOutboundItem<OutboundColumn<'a>> for Column<'a> {
+    fn as_item(&self) -> OutboundColumn<'a> {
+        OutboundColumn {
             name: self.name.0,
             table: io::Oid(self.table),
             attribute: self.attribute,
@@ -97,7 +97,7 @@ pub(super) fn read<'a>(body: &'a [u8]) -> Result<List<'a, Column<'a>>, Fault> {
 }
 
 pub(super) fn write<B: Buffer>(columns: &[Column<'_>], out: &mut B) -> Result<(), Refusal> {
-    put_answer(&RowDescriptionText { columns }, out)
+    put_answer(&OutboundRowDescription { columns }, out)
 }
 
 /// Reads the body of a ParameterDescription.

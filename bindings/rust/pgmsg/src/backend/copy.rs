@@ -7,7 +7,7 @@ use crate::list::List;
 use crate::value::Format;
 use alloc::vec::Vec;
 use pgmsg_core::pg_receive::message::CopyResponseRef;
-use pgmsg_core::pg_server::backend::{CopyDirection, CopyResponseText};
+use pgmsg_core::pg_server::backend::{CopyDirection, OutboundCopyResponse};
 
 /// How the data of a COPY is spelled.
 ///
@@ -47,5 +47,5 @@ pub(super) fn write<B: Buffer>(
 ) -> Result<(), Refusal> {
     let format_codes: Vec<_> = response.columns.iter().map(|format| format.0).collect();
     let (format, format_codes) = (response.format, &format_codes[..]);
-    put_answer(&CopyResponseText { direction, format, format_codes }, out)
+    put_answer(&OutboundCopyResponse { direction, format, format_codes }, out)
 }

@@ -7,7 +7,9 @@ use crate::error::{Fault, Refusal};
 use crate::list::List;
 use alloc::vec::Vec;
 use pgmsg_core::pg_receive::message as received;
-use pgmsg_core::pg_server::backend::{AsItem, NoticeFieldText, NoticeKind, NoticeText};
+use pgmsg_core::pg_server::backend::{
+    AsOutboundItem, NoticeKind, OutboundNotice, OutboundNoticeField,
+};
 
 /// Makes the enum of what fields say by a table of their letters.
 macro_rules! kinds {
@@ -114,9 +116,9 @@ impl<'a> Field<'a> {
 }
 
 /// As it is written.
-impl<'a> AsItem<NoticeFieldText<'a>> for Field<'a> {
-    fn as_item(&self) -> NoticeFieldText<'a> {
-        NoticeFieldText { letter: self.letter, text: self.value.0 }
+impl<'a> AsOutboundItem<OutboundNoticeField<'a>> for Field<'a> {
+    fn as_item(&self) -> OutboundNoticeField<'a> {
+        OutboundNoticeField { letter: self.letter, text: self.value.0 }
     }
 }
 
@@ -180,5 +182,5 @@ pub(super) fn write<B: Buffer>(
     fields: &[Field<'_>],
     out: &mut B,
 ) -> Result<(), Refusal> {
-    put_answer(&NoticeText { kind, fields }, out)
+    put_answer(&OutboundNotice { kind, fields }, out)
 }

@@ -12,8 +12,8 @@ use pgmsg_core::pg_receive::message::{
     ReadyForQuery,
 };
 use pgmsg_core::pg_server::backend::{
-    BackendKeyDataText, BackendText, NegotiateProtocolVersionText, NotificationText,
-    ParameterStatusText,
+    OutboundBackendKeyData, OutboundMessage, OutboundNegotiateProtocolVersion,
+    OutboundNotification, OutboundParameterStatus,
 };
 
 /// What a request to cancel has to name.
@@ -49,7 +49,7 @@ impl<'a> BackendKeyData<'a> {
     /// than 256.
     pub fn write<B: Buffer>(&self, out: &mut B) -> Result<(), Refusal> {
         let (process_id, secret_key) = (self.process_id, self.secret_key.0);
-        put_answer(&BackendKeyDataText { process_id, secret_key }, out)
+        put_answer(&OutboundBackendKeyData { process_id, secret_key }, out)
     }
 }
 
@@ -90,7 +90,7 @@ impl<'a> NotificationResponse<'a> {
     /// Refused with [`TextHoldsNul`](Refusal::TextHoldsNul) where a text holds a NUL.
     pub fn write<B: Buffer>(&self, out: &mut B) -> Result<(), Refusal> {
         let (process_id, channel, payload) = (self.process_id, self.channel.0, self.payload.0);
-        put_answer(&NotificationText { process_id, channel, payload }, out)
+        put_answer(&OutboundNotification { process_id, channel, payload }, out)
     }
 }
 
@@ -124,7 +124,7 @@ impl<'a> ParameterStatus<'a> {
     ///
     /// Refused with [`TextHoldsNul`](Refusal::TextHoldsNul) where one of them holds a NUL.
     pub fn write<B: Buffer>(&self, out: &mut B) -> Result<(), Refusal> {
-        put_answer(&ParameterStatusText { name: &self.name, value: &self.value }, out)
+        put_answer(&OutboundParameterStatus { name: &self.name, value: &self.value }, out)
     }
 }
 
@@ -244,7 +244,8 @@ impl<'a> NegotiateProtocolVersion<'a> {
     ///
     /// Refused with [`TextHoldsNul`](Refusal::TextHoldsNul) where a name holds a NUL.
     pub fn write<B: Buffer>(&self, out: &mut B) -> Result<(), Refusal> {
-        let text = NegotiateProtocolVersionText { minor: self.minor, options: &self.options[..] };
+        let text =
+            OutboundNegotiateProtocolVersion { minor: self.minor, options: &self.options[..] };
         // The core's own version is 3.
         let Then(Then(_, minor), options) = text.parts();
         put_sound(text.tag(), Then(Then(Number16(self.major), minor), options), Ok(()), out)

@@ -11,7 +11,7 @@ use pgmsg_core::pg_base::io::part::{Number16, Number32, Then, ThenFirst};
 use pgmsg_core::pg_base::io::Ended;
 use pgmsg_core::pg_send::message::counted::{Codes, ParamFormats, ResultFormats};
 use pgmsg_core::pg_send::message::round_trip::check_name;
-use pgmsg_core::pg_send::message::values::Each;
+use pgmsg_core::pg_send::message::values::CountedValues;
 use pgmsg_core::pg_server::frontend::{BindRef, FormatCodes, FunctionCallRef, Values};
 
 /// A portal that is made of a prepared statement and the values of its parameters.
@@ -71,7 +71,7 @@ impl<'a> Bind<'a> {
     #[inline]
     pub fn write<B: Buffer>(&self, out: &mut B) -> Result<(), Refusal> {
         let sound = check_name(&self.portal).and(check_name(&self.statement));
-        let values = Each(&self.values[..]);
+        let values = CountedValues(&self.values[..]);
         let results = Codes(ResultFormats, &self.result_formats[..]);
         let parameters = Then(Codes(ParamFormats, &self.formats[..]), ThenFirst(values, results));
         let parts = Then(Ended(self.portal.0), Then(Ended(self.statement.0), parameters));
@@ -118,7 +118,7 @@ impl<'a> FunctionCall<'a> {
     pub fn write<B: Buffer>(&self, out: &mut B) -> Result<(), Refusal> {
         let formats = Codes(ParamFormats, &self.formats[..]);
         let result = Number16(self.result_format.0 as u16);
-        let arguments = Then(Each(&self.arguments[..]), result);
+        let arguments = Then(CountedValues(&self.arguments[..]), result);
         put_sound(b'F', Then(Number32(self.object_id), Then(formats, arguments)), Ok(()), out)
     }
 }

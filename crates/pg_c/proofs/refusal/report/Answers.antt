@@ -11,7 +11,7 @@ returns-clause-report c =
     let number_fits : SFits w32 c.number_of.result = search rules in
     let result_fits : SFits w32 c.fill.result = search rules in
     let filled = c.fill.ensures (error_words c.args.error) c.to_string-words.ensures.ok in
-    rw (to_z-of_z w32 c.fill.result result_fits) (rw (to_z-of_z w32 c.number_of.result number_fits, c.number_of.ensures, c.place_of.ensures) at filled)
+    rw (to_z-of_z w32 c.fill.result result_fits) (rw (to_z-of_z w32 c.number_of.result number_fits, c.number_of.ensures, c.offset_of.ensures) at filled)
 
 pub returns-clause-below : goal.returns-clause-below
 returns-clause-below c =

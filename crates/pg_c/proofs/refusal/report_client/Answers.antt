@@ -11,7 +11,7 @@ returns-clause-report c =
     let number_fits : SFits w32 c.number_of_client.result = search rules in
     let result_fits : SFits w32 c.fill.result = search rules in
     let filled = c.fill.ensures (fault_words c.args.why) c.to_string-words.ensures.ok in
-    rw (to_z-of_z w32 c.fill.result result_fits) (rw (to_z-of_z w32 c.number_of_client.result number_fits, c.number_of_client.ensures, c.place_of_client.ensures) at filled)
+    rw (to_z-of_z w32 c.fill.result result_fits) (rw (to_z-of_z w32 c.number_of_client.result number_fits, c.number_of_client.ensures, c.offset_of_client.ensures) at filled)
 
 pub returns-clause-below : goal.returns-clause-below
 returns-clause-below c =

@@ -5,7 +5,7 @@ use Rattle.pg_format.specs.Format.Tests.{unless}
 use Rattle.pg_format.specs.Logical as page
 use Rattle.pg_format.specs.Logical.{Datum, tuple, old_tuple}
 use Rattle.pg_replication.specs.Logical.{shown_update}
-use Rattle.pg_replication.specs.Logical.Columns.{columns_shown}
+use Rattle.pg_replication.specs.Logical.TableColumns.{columns_shown}
 use Rattle.pg_replication.specs.Logical.Old.{shown_old}
 use Rattle.pg_replication.specs.Logical.Relations.{relation_ids}
 use Rattle.pg_replication.specs.Logical.Tuple.{datums}

@@ -9,10 +9,10 @@ use Rattle.pg_format.specs.Logical.{in_change_stream, logical_letter, IsNoLogica
 use Rattle.pg_format.specs.declared.logical.LogicalKind.{LogicalKind}
 use Rattle.pg_format.specs.declared.logical.LogicalKind.TheVariants as kinds
 use Rattle.pg_replication.specs.Logical.{LogicalAnswer}
-use Rattle.pg_replication.specs.Logical.Columns.{shown_column}
-use Rattle.pg_replication.specs.Logical.LogicalText.{says, IsContentWritten}
+use Rattle.pg_replication.specs.Logical.TableColumns.{shown_column}
+use Rattle.pg_replication.specs.Logical.Encode.{says, IsContentWritten}
 use Rattle.pg_replication.specs.Logical.Tuple.{kinds_fault, shown_text, IsMade}
-use Rattle.pg_replication.specs.declared.logical.datum.DatumText.{DatumText}
+use Rattle.pg_replication.specs.declared.logical.datum.OutboundDatum.{OutboundDatum}
 use Rattle.pg_c.specs.Server.{number_of_answer}
 use Rattle.pg_c.specs.declared.replication.logical.put.PgmsgLogicalText.{PgmsgLogicalText}
 
@@ -47,7 +47,7 @@ relation_of t = record {
 abbrev pub type_name_of : PgmsgLogicalText → page.TypeName
 type_name_of t = record { transaction = transaction_of t; type_id = t.type_id; schema = t.schema.now; name = t.name.now }
 
-abbrev pub row_of : Bor (List DatumText) → List page.Datum
+abbrev pub row_of : Bor (List OutboundDatum) → List page.Datum
 row_of values = map shown_text values.now
 
 abbrev pub insert_of : PgmsgLogicalText → page.Insert

@@ -7,7 +7,7 @@ ghost use Rattle.pg_format.specs.Format.{Format};
 ghost use Rattle.pg_format.specs.Format.Places.{BreaksAt};
 ghost use Rattle.pg_format.specs.Logical.{datum, column};
 ghost use Rattle.pg_format.specs.Received.{max_body};
-ghost use Rattle.pg_replication.specs.Logical.Columns.{shown_column};
+ghost use Rattle.pg_replication.specs.Logical.TableColumns.{shown_column};
 ghost use Rattle.pg_replication.specs.Logical.Tuple.{shown_datum};
 ghost use Rattle.pg_c.specs.Place.{nowhere, span_of};
 ghost use Rattle.pg_c.specs.Read.{IfRead, IsBodyFault};
@@ -26,7 +26,7 @@ use byteorder::{BigEndian, ByteOrder};
 use pg_base::ProtocolFault;
 use pg_base::io::{MAX_BODY, bytes_at};
 use pg_format::items::Item;
-use pg_replication::logical::{Column, Datum};
+use pg_replication::logical::{Datum, TableColumn};
 use std::alloc::Global;
 
 // The bytes before a value: its letter and its length.
@@ -356,8 +356,8 @@ impl Place for PgmsgTableColumn {
     ghost item_in = { column_in };
 
     fn place_at(content: &[u8], at: usize) -> Result<(PgmsgTableColumn, usize), ProtocolFault> {
-        let (read, end) = Column::item_at(content, at)?;
-        Ok((place_of_column(at, &read), end))
+        let (read, end) = TableColumn::item_at(content, at)?;
+        Ok((place_of_table_column(at, &read), end))
     }
 
     fn give_front(
@@ -370,7 +370,7 @@ impl Place for PgmsgTableColumn {
 }
 
 // The place of the column that begins at an offset.
-fn place_of_column(at: usize, read: &Column<'_>) -> PgmsgTableColumn
+fn place_of_table_column(at: usize, read: &TableColumn<'_>) -> PgmsgTableColumn
     requires { at ≤ MAX_BODY }
     ensures { IsPlaceOf column column_in at (shown_column read.now) result }
 {

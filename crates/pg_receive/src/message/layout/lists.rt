@@ -13,7 +13,7 @@ use crate::message::data_row::Cell;
 use crate::message::{RawFieldRef, text_at};
 use pg_base::ProtocolFault;
 use pg_base::io::{MAX_BODY, bytes_at};
-use pg_format::items::{Items, Nothing};
+use pg_format::items::{Discard, Items};
 
 // The least bytes of a cell and of a column.
 const LEAST_CELL: usize = 4;
@@ -26,7 +26,7 @@ pub(super) fn row_end(body: &[u8]) -> Result<usize, ProtocolFault>
     ensures end { IfOk result (EndsAt (counted_least 4 cell) body.now 0) }
     ensures fault { IfErr result (IsFaultOf (counted_least 4 cell) body.now) }
 {
-    let end = Items::begin(body, LEAST_CELL)?.read_all::<Cell<'_>, Nothing>(&mut Nothing)?;
+    let end = Items::begin(body, LEAST_CELL)?.read_all::<Cell<'_>, Discard>(&mut Discard)?;
     Ok(end)
 }
 
@@ -36,7 +36,7 @@ pub(super) fn columns_end(body: &[u8]) -> Result<usize, ProtocolFault>
     ensures end { IfOk result (EndsAt (counted_least 19 raw_column) body.now 0) }
     ensures fault { IfErr result (IsFaultOf (counted_least 19 raw_column) body.now) }
 {
-    let end = Items::begin(body, LEAST_COLUMN)?.read_all::<RawFieldRef<'_>, Nothing>(&mut Nothing)?;
+    let end = Items::begin(body, LEAST_COLUMN)?.read_all::<RawFieldRef<'_>, Discard>(&mut Discard)?;
     Ok(end)
 }
 

@@ -12,7 +12,7 @@ use crate::message::row_description::{Field, LEAST_COLUMN, NUMBERS_LENGTH};
 use crate::message::str_at;
 use pg_base::ProtocolFault;
 use pg_base::io::{MAX_BODY, Oid, bytes_at, i16_at, i32_at, u32_at};
-use pg_format::items::{Item, Items, Nothing};
+use pg_format::items::{Discard, Item, Items};
 use std::alloc::{AllocError, Global};
 use std::marker::Model;
 
@@ -97,7 +97,7 @@ impl<'a> Columns<'a> {
         ensures { ReadsAs row_description (λ columns. columns) body.now result }
     {
         let columns = Items::begin(body, LEAST_COLUMN)?;
-        columns.read_all::<FieldRef<'a>, Nothing>(&mut Nothing)?;
+        columns.read_all::<FieldRef<'a>, Discard>(&mut Discard)?;
         Ok(Columns { columns })
     }
 

@@ -5,10 +5,15 @@ use crate::byte_str::ByteStr;
 use crate::replication::mirror::mirrors;
 use alloc::vec::Vec;
 use pgmsg_core::pg_base::ProtocolFault;
-use pgmsg_core::pg_replication::logical::{self as core_logical, DatumText};
+use pgmsg_core::pg_replication::logical::{self as core_logical, OutboundDatum};
+
+/// What the structs below have the fields of.
+mod mirrored {
+    pub use pgmsg_core::pg_replication::logical::{TableColumn as Column, TypeName};
+}
 
 mirrors! {
-    core_logical;
+    mirrored;
 
     /// A column of a table.
     pub struct Column<'a> {
@@ -197,7 +202,7 @@ impl<'a> From<core_logical::Truncate<'a>> for Truncate<'a> {
 impl<'a> Relation<'a> {
     pub(super) fn sent(
         self,
-        columns: &'a mut Vec<core_logical::Column<'a>>,
+        columns: &'a mut Vec<core_logical::TableColumn<'a>>,
     ) -> core_logical::Relation<'a> {
         core_logical::Relation {
             transaction: self.transaction,
@@ -213,7 +218,7 @@ impl<'a> Relation<'a> {
 impl<'a> Old<'a> {
     fn sent(
         self,
-        values: &'a mut Vec<DatumText<'a>>,
+        values: &'a mut Vec<OutboundDatum<'a>>,
     ) -> Result<core_logical::Old<'a>, ProtocolFault> {
         Ok(match self {
             Old::Key(row) => core_logical::Old::Key(row.sent(values)?),
@@ -225,7 +230,7 @@ impl<'a> Old<'a> {
 impl<'a> Insert<'a> {
     pub(super) fn sent(
         self,
-        values: &'a mut Vec<DatumText<'a>>,
+        values: &'a mut Vec<OutboundDatum<'a>>,
     ) -> Result<core_logical::Insert<'a>, ProtocolFault> {
         let Insert { transaction, relation, new } = self;
         Ok(core_logical::Insert { transaction, relation, new: new.sent(values)? })
@@ -235,8 +240,8 @@ impl<'a> Insert<'a> {
 impl<'a> Update<'a> {
     pub(super) fn sent(
         self,
-        old_values: &'a mut Vec<DatumText<'a>>,
-        values: &'a mut Vec<DatumText<'a>>,
+        old_values: &'a mut Vec<OutboundDatum<'a>>,
+        values: &'a mut Vec<OutboundDatum<'a>>,
     ) -> Result<core_logical::Update<'a>, ProtocolFault> {
         let Update { transaction, relation, old, new } = self;
         let old = old.map(|old| old.sent(old_values)).transpose()?;
@@ -247,7 +252,7 @@ impl<'a> Update<'a> {
 impl<'a> Delete<'a> {
     pub(super) fn sent(
         self,
-        values: &'a mut Vec<DatumText<'a>>,
+        values: &'a mut Vec<OutboundDatum<'a>>,
     ) -> Result<core_logical::Delete<'a>, ProtocolFault> {
         let Delete { transaction, relation, old } = self;
         Ok(core_logical::Delete { transaction, relation, old: old.sent(values)? })

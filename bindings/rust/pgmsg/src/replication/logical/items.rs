@@ -22,7 +22,7 @@ enum Source<'a, T> {
 #[derive(Clone, Copy)]
 pub enum Read<'a> {
     Tuple(core_logical::Tuple<'a>),
-    Columns(core_logical::Columns<'a>),
+    Columns(core_logical::TableColumns<'a>),
     Relations(core_logical::Relations<'a>),
 }
 
@@ -62,12 +62,12 @@ impl<'a, T: Listed<'a>> Items<'a, T> {
 impl<'a> Items<'a, Datum<'a>> {
     pub(super) fn sent(
         self,
-        room: &'a mut Vec<core_logical::DatumText<'a>>,
+        room: &'a mut Vec<core_logical::OutboundDatum<'a>>,
     ) -> Result<core_logical::Tuple<'a>, ProtocolFault> {
         match self.0 {
             Source::Read(Read::Tuple(items)) => Ok(items),
             _ => {
-                room.extend(self.iter().map(|datum| core_logical::DatumText::of(datum.into())));
+                room.extend(self.iter().map(|datum| core_logical::OutboundDatum::of(datum.into())));
                 core_logical::Tuple::of(room)
             }
         }
@@ -78,13 +78,13 @@ impl<'a> Items<'a, Datum<'a>> {
 impl<'a> Items<'a, Column<'a>> {
     pub(super) fn sent(
         self,
-        room: &'a mut Vec<core_logical::Column<'a>>,
-    ) -> core_logical::Columns<'a> {
+        room: &'a mut Vec<core_logical::TableColumn<'a>>,
+    ) -> core_logical::TableColumns<'a> {
         match self.0 {
             Source::Read(Read::Columns(items)) => items,
             _ => {
-                room.extend(self.iter().map(core_logical::Column::from));
-                core_logical::Columns::of(room)
+                room.extend(self.iter().map(core_logical::TableColumn::from));
+                core_logical::TableColumns::of(room)
             }
         }
     }
@@ -108,8 +108,8 @@ impl<'a> From<core_logical::Tuple<'a>> for Items<'a, Datum<'a>> {
     }
 }
 
-impl<'a> From<core_logical::Columns<'a>> for Items<'a, Column<'a>> {
-    fn from(items: core_logical::Columns<'a>) -> Self {
+impl<'a> From<core_logical::TableColumns<'a>> for Items<'a, Column<'a>> {
+    fn from(items: core_logical::TableColumns<'a>) -> Self {
         Items(Source::Read(Read::Columns(items)))
     }
 }

@@ -8,9 +8,9 @@ use pgmsg_core::pg_replication::logical::{self as core_logical, LogicalMessage a
 /// The lists of a message that a caller gave, as the core takes them.
 #[derive(Default)]
 pub(super) struct Lists<'a> {
-    columns: Vec<core_logical::Column<'a>>,
-    old: Vec<core_logical::DatumText<'a>>,
-    new: Vec<core_logical::DatumText<'a>>,
+    columns: Vec<core_logical::TableColumn<'a>>,
+    old: Vec<core_logical::OutboundDatum<'a>>,
+    new: Vec<core_logical::OutboundDatum<'a>>,
 }
 
 impl<'a> Lists<'a> {

@@ -20,14 +20,14 @@ loop-next-preserved c =
           let gives = read.invariant.1 first before front in
           elim c.if-next-values.branch [
             | then-next-values w ↦ rw w.values-is
-                (gives_more value (cell_in body) body first read.at end read.next before read.values w.place_of.result content gives (w.place_of.ensures body (as_cell body read.at end content found)) found w.if-next-values.true)
+                (gives_more value (cell_in body) body first read.at end read.next before read.values w.place_of_cell.result content gives (w.place_of_cell.ensures body (as_cell body read.at end content found)) found w.if-next-values.true)
             | else-next-values w ↦ rw w.values-is
                 (gives_full value (cell_in body) body first read.at end read.next before read.values content gives found (omega (arith, w.if-next-values.false)))
           ],
     )
 
-pub place_of-requires-clause-wide : goal.place_of-requires-clause-wide
-place_of-requires-clause-wide c =
+pub place_of_cell-requires-clause-wide : goal.place_of_cell-requires-clause-wide
+place_of_cell-requires-clause-wide c =
     let body = c.args.body.now in
     let found = c.in_ok-value in
     cell_is_wide body c.loop-next.at found.end (option_copied found.value) (as_cell body c.loop-next.at found.end (option_copied found.value) found.ensures)

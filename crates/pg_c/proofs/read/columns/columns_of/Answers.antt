@@ -19,7 +19,7 @@ loop-index-preserved c =
     let gives = loop.invariant in
     elim c.if-index-columns.branch [
       | then-index-columns w ↦ rw w.columns-is
-          (gives_more raw_column (column_in body) body 2 loop.at end loop.index c.args.columns.now loop.columns w.place_of.result field gives (w.place_of.ensures end body read) read w.if-index-columns.true)
+          (gives_more raw_column (column_in body) body 2 loop.at end loop.index c.args.columns.now loop.columns w.place_of_column.result field gives (w.place_of_column.ensures end body read) read w.if-index-columns.true)
       | else-index-columns w ↦ rw w.columns-is
           (gives_full raw_column (column_in body) body 2 loop.at end loop.index c.args.columns.now loop.columns field gives read (omega (arith, w.if-index-columns.false)))
     ]

@@ -22,7 +22,7 @@ loop-index-preserved c =
           let gives = row.invariant.1 before front in
           elim c.if-index-cells.branch [
             | then-index-cells w ↦ rw w.cells-is
-                (gives_more cell (cell_in body) body 2 row.at end row.index before row.cells (w.place_of.result) value gives (w.place_of.ensures body read) read w.if-index-cells.true)
+                (gives_more cell (cell_in body) body 2 row.at end row.index before row.cells (w.place_of_cell.result) value gives (w.place_of_cell.ensures body read) read w.if-index-cells.true)
             | else-index-cells w ↦ rw w.cells-is
                 (gives_full cell (cell_in body) body 2 row.at end row.index before row.cells value gives read (omega (arith, w.if-index-cells.false)))
           ],
@@ -43,8 +43,8 @@ returns-clause-row c = λ before front.
     let all : loop.index ≡ c.args.count = omega (arith, c.loop-index-test.false, loop.auto.index-end) in
     reads_items cell 4 (cell_in body) body c.args.count loop.at loop.index before loop.cells c.requires.counted all (loop.invariant.1 before front)
 
-pub place_of-requires-clause-wide : goal.place_of-requires-clause-wide
-place_of-requires-clause-wide c = cell_is_wide c.args.body.now c.loop-index.at c.in_ok-cell.end (option_copied c.in_ok-cell.cell) c.in_ok-cell.ensures.cell
+pub place_of_cell-requires-clause-wide : goal.place_of_cell-requires-clause-wide
+place_of_cell-requires-clause-wide c = cell_is_wide c.args.body.now c.loop-index.at c.in_ok-cell.end (option_copied c.in_ok-cell.cell) c.in_ok-cell.ensures.cell
 
 pub returns-in_err-cell-clause-front : goal.returns-in_err-cell-clause-front
 returns-in_err-cell-clause-front c =

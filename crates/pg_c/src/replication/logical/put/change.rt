@@ -13,7 +13,7 @@ use crate::replication::logical::put::PgmsgLogicalText;
 use crate::replication::logical::put::transaction::transaction_of;
 use pg_base::ProtocolFault;
 use pg_replication::logical::{
-    Columns, Delete, Insert, Old, Relation, Relations, Truncate, Tuple, TypeName, Update,
+    Delete, Insert, Old, Relation, Relations, TableColumns, Truncate, Tuple, TypeName, Update,
 };
 
 pub(crate) fn relation_of<'a>(text: &PgmsgLogicalText<'a>) -> Relation<'a>
@@ -25,7 +25,7 @@ pub(crate) fn relation_of<'a>(text: &PgmsgLogicalText<'a>) -> Relation<'a>
         schema: text.schema,
         name: text.name,
         replica_identity: text.replica_identity,
-        columns: Columns::of(text.columns),
+        columns: TableColumns::of(text.columns),
     }
 }
 

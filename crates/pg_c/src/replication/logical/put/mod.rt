@@ -5,21 +5,23 @@ mod transaction;
 
 ghost use Rattle.std.specs.Prelude.{◌≤◌, IfOk};
 ghost use Rattle.pg_base.specs.Cutting.{max_length};
-ghost use Rattle.pg_replication.specs.Logical.LogicalText.{says};
+ghost use Rattle.pg_replication.specs.Logical.Encode.{says};
 ghost use Rattle.pg_replication.specs.Logical.Tuple.{IsMade};
 ghost use Rattle.pg_c.specs.Replication.Logical.Put.{letters_fault, said_of, IsMessageOf};
 ghost use Rattle.pg_c.specs.Replication.Logical.Put.{IsWrittenOf, PutsLogical};
 
 use crate::refusal::number_of_fault;
 use pg_base::ProtocolFault;
-use pg_replication::logical::{Column, DatumText, LogicalKind, LogicalMessage, StreamStop};
+use pg_replication::logical::{
+    LogicalKind, LogicalMessage, OutboundDatum, StreamStop, TableColumn,
+};
 
 /// The value of a column in a row that is written. `kind` is as in `pgmsg_datum`; the `value` of an `n` or a `u` isn't
 /// looked at.
-pub type PgmsgDatumText<'a> = DatumText<'a>;
+pub type PgmsgDatumText<'a> = OutboundDatum<'a>;
 
 /// A column of a table that is written. `flags` are as in `pgmsg_table_column`.
-pub type PgmsgTableColumnText<'a> = Column<'a>;
+pub type PgmsgTableColumnText<'a> = TableColumn<'a>;
 
 /// A message of logical replication that is written: its letter, and its parts as `pgmsg_logical` has them, with lists
 /// in arrays. `old_values` are those of an `old_row`, and `values` those of a `new_row`. What is no part of it is passed

@@ -1,6 +1,6 @@
 use Rattle.std.proofs.Common.{sym, ◌∙◌}
 use Rattle.pg_base.proofs.TaggedLemmas.{no_fault}
-use Rattle.pg_replication.proofs.LogicalTextLemmas.{own_message}
+use Rattle.pg_replication.proofs.LogicalEncodeLemmas.{own_message}
 use Rattle.pg_replication.proofs.logical.logical_message.LogicalMessage.write.Goals as goal
 
 pub returns-clause-read : goal.returns-clause-read

@@ -1,8 +1,8 @@
 use Rattle.std.proofs.Common.{ap, arith}
-use Rattle.pg_server.specs.Backend.Item.{nul_fault}
-use Rattle.pg_server.proofs.BackendItemLemmas.{never_any}
+use Rattle.pg_server.specs.Backend.OutboundItem.{nul_fault}
+use Rattle.pg_server.proofs.BackendOutboundItemLemmas.{never_any}
 use Rattle.pg_replication.specs.Logical.Relations.{relation_ids}
-use Rattle.pg_replication.proofs.LogicalTextLemmas.{few_ids}
+use Rattle.pg_replication.proofs.LogicalEncodeLemmas.{few_ids}
 use Rattle.pg_replication.proofs.logical.relations.TruncatedPart.put.Goals as goal
 
 pub overflow_cast-len : goal.overflow_cast-len

@@ -1,6 +1,6 @@
 use Rattle.std.proofs.Common.{ap, ◌∙◌}
-use Rattle.pg_server.specs.Backend.Item.{too_many, max_unsigned}
-use Rattle.pg_server.proofs.BackendItemLemmas.{count_alone}
+use Rattle.pg_server.specs.Backend.OutboundItem.{too_many, max_unsigned}
+use Rattle.pg_server.proofs.BackendOutboundItemLemmas.{count_alone}
 use Rattle.pg_replication.specs.Logical.Tuple.{datums}
 use Rattle.pg_replication.proofs.logical.tuple.TuplePart.fault.Goals as goal
 

@@ -1,5 +1,5 @@
 use Rattle.std.proofs.Common.{◌≡◌, ◌-◌, ◌^◌, min, ap, ◌∙◌, length, rules}
-use Rattle.pg_base.specs.Text.{ended}
+use Rattle.pg_base.specs.Ended.{ended}
 use Rattle.pg_send.specs.Password.{power_over}
 use Rattle.pg_send.proofs.PowerLemmas.{power_over_saturated}
 use Rattle.pg_send.proofs.message.password.PasswordFrontendMessage.room_for.Goals as goal

@@ -1,0 +1,20 @@
+use Rattle.std.proofs.Common.{◌≡◌, ℤ, refl, rules}
+use Rattle.std.specs.Int.{w64}
+use Rattle.std.proofs.lemmas.Int.{to_z-of_z}
+use mir.Val.{SFits}
+use Rattle.pg_base.specs.Part.{both, number64}
+use Rattle.pg_base.specs.Tagged.{IsSame}
+use Rattle.pg_format.specs.Field.{number8, signed64}
+use Rattle.pg_replication.specs.Logical.Encode.{commit_part}
+use Rattle.pg_replication.specs.declared.logical.transaction.Commit.{Commit}
+use Rattle.pg_replication.proofs.logical.transaction.CommitOutboundFields.parts.Goals as goal
+
+of_parts : (it : Commit) (clock : ℤ) → clock ≡ it.clock
+    → IsSame (both (number8 it.flags) (both (number64 it.lsn) (both (number64 it.end_lsn) (signed64 clock)))) (commit_part it)
+of_parts it clock e = rw e (record { text = refl; fault = refl; range = λ r. (r.0, r.1.0, r.1.1.0, r.1.1.1) })
+
+pub returns : goal.returns
+returns c =
+    let it = c.args.self.now in
+    let fits : SFits w64 it.clock = search rules in
+    of_parts it _ (to_z-of_z w64 it.clock fits)
