@@ -152,9 +152,9 @@ lettered body at end d lt p = record { within = p.within; reads = ((get_or body 
 abbrev FindsDatum : List ℕ → ℕ → PgmsgDatum → ℕ → Type 0
 FindsDatum body at place end = Finds datum datum_in body at place end
 
-pub unsent_found : (body : List ℕ) (at : ℕ) → at < length body → (get_or body at 0 ≡ 110) ⊎ (get_or body at 0 ≡ 117) → FindsDatum body at (record { kind = get_or body at 0; value = nowhere }) (at + 1)
-unsent_found body at lt (inl e) = record { item = null; read = lettered body at (at + 1) null lt (record { within = omega (arith, lt); reads = rw e (refl, refl) }); is = rw e refl }
-unsent_found body at lt (inr e) = record { item = unchanged; read = lettered body at (at + 1) unchanged lt (record { within = omega (arith, lt); reads = rw e (refl, refl) }); is = rw e refl }
+pub without_value_found : (body : List ℕ) (at : ℕ) → at < length body → (get_or body at 0 ≡ 110) ⊎ (get_or body at 0 ≡ 117) → FindsDatum body at (record { kind = get_or body at 0; value = nowhere }) (at + 1)
+without_value_found body at lt (inl e) = record { item = null; read = lettered body at (at + 1) null lt (record { within = omega (arith, lt); reads = rw e (refl, refl) }); is = rw e refl }
+without_value_found body at lt (inr e) = record { item = unchanged; read = lettered body at (at + 1) unchanged lt (record { within = omega (arith, lt); reads = rw e (refl, refl) }); is = rw e refl }
 
 -- so many bytes after a letter and their number
 record SizedAfter (body : List ℕ) (at n : ℕ) : Type 0 where
@@ -166,14 +166,14 @@ sized_after body at n inside p =
     let value = bytes_stand body (at + 5) n inside in
     record { reads = ((n, take n (drop (at + 5) body)), record { mid = drop (at + 5) body; first = p; second = value.reads }, refl); wide = value.reads.0 }
 
-pub sent_found : (body : List ℕ) (at n : ℕ) → at + 5 + n ≤ length body → (get_or body at 0 ≡ 116) ⊎ (get_or body at 0 ≡ 98) → Number 4 (drop (at + 1) body) n (drop (at + 5) body)
+pub with_value_found : (body : List ℕ) (at n : ℕ) → at + 5 + n ≤ length body → (get_or body at 0 ≡ 116) ⊎ (get_or body at 0 ≡ 98) → Number 4 (drop (at + 1) body) n (drop (at + 5) body)
     → FindsDatum body at (record { kind = get_or body at 0; value = record { at = at + 5; len = n } }) (at + 5 + n)
-sent_found body at n inside (inl e) p =
+with_value_found body at n inside (inl e) p =
     let value = take n (drop (at + 5) body) in
     let read : IsReadAt datum body at (text value) (at + 5 + n) = lettered body at (at + 5 + n) (text value) (omega (arith, inside)) (record { within = inside; reads = rw e (value, (sized_after body at n inside p).reads, refl) }) in
     let wide : length value ≡ n = (sized_after body at n inside p).wide in
     record { item = text value; read = read; is = rw e (subst (λ (k : ℕ). datum_in body (record { kind = 116; value = record { at = at + 5; len = k } }) ≡ Some (text value)) wide (text_is body at (at + 5 + n) value read)) }
-sent_found body at n inside (inr e) p =
+with_value_found body at n inside (inr e) p =
     let value = take n (drop (at + 5) body) in
     let read : IsReadAt datum body at (binary value) (at + 5 + n) = lettered body at (at + 5 + n) (binary value) (omega (arith, inside)) (record { within = inside; reads = rw e (value, (sized_after body at n inside p).reads, refl) }) in
     let wide : length value ≡ n = (sized_after body at n inside p).wide in

@@ -9,7 +9,7 @@ pub mod FunctionResult
 pub mod Negotiation
 pub mod Row
 pub mod Status
-use Rattle.std.specs.Prelude.{◌≡◌, ◌<◌, ◌≤◌, ◌≤ℤ◌, ◌⊎◌, ℕ, ℤ, pos, List, Option, Some, map, take, drop, length, Result, Ok, Err, IfOk}
+use Rattle.std.specs.Prelude.{◌≡◌, ◌<◌, ◌≤◌, ◌<ℤ◌, ◌≤ℤ◌, ◌⊎◌, ℕ, ℤ, pos, List, Option, Some, map, take, drop, length, Result, Ok, Err, IfOk}
 use Rattle.pg_base.specs.declared.error.ProtocolFault.{ProtocolFault}
 use Rattle.pg_base.specs.declared.error.ProtocolFault.TheVariants.{BodyTooLong}
 use Rattle.pg_format.specs.Received.{max_body}
@@ -26,6 +26,22 @@ IfRead result Holds = pos 0 ≤ℤ result → Holds result
 -- the same of a count that was read, as the number that the call returns
 abbrev pub IfCount : {E : Type 0} → Result ℕ E → (ℤ → Type 0) → Type 0
 IfCount result Holds = IfOk result (λ count. Holds (pos count))
+
+-- what a call leaves as it was: the fault, where it doesn't refuse, and what it gives, where it does
+pub record LeavesEither {A : Type 0} (old_fault fault : PgmsgFault) (old new : A) (result : ℤ) : Type 0 where
+  pub untouched : pos 0 ≤ℤ result → fault ≡ old_fault
+  pub kept : result <ℤ pos 0 → new ≡ old
+
+-- the same of a call that reads a body, which then isn't longer than any
+pub record LeavesRest {A : Type 0} (body : List ℕ) (old_fault fault : PgmsgFault) (old new : A) (result : ℤ) : Type 0 where
+  pub within : pos 0 ≤ℤ result → length body ≤ max_body
+  pub untouched : pos 0 ≤ℤ result → fault ≡ old_fault
+  pub kept : result <ℤ pos 0 → new ≡ old
+
+-- the same of one that gives nothing but a number, or the items before the one that it refuses
+pub record LeavesFault (body : List ℕ) (old_fault fault : PgmsgFault) (result : ℤ) : Type 0 where
+  pub within : pos 0 ≤ℤ result → length body ≤ max_body
+  pub untouched : pos 0 ≤ℤ result → fault ≡ old_fault
 
 -- a body that is longer than any
 abbrev pub IsTooLong : List ℕ → ProtocolFault → Type 0

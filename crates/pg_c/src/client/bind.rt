@@ -1,12 +1,11 @@
 //! A portal that a client makes of a prepared statement.
 
-ghost use Rattle.std.specs.Prelude.{◌≡◌, ◌≤◌, ◌<ℤ◌, ◌≤ℤ◌, pos, length, IfOk, IfErr};
+ghost use Rattle.std.specs.Prelude.{◌≤◌, ◌<ℤ◌, pos, length, IfOk, IfErr};
 ghost use Rattle.pg_format.specs.Messages as page;
 ghost use Rattle.pg_server.specs.Frontend.Message.{HasFault};
-ghost use Rattle.pg_format.specs.Received.{max_body};
 ghost use Rattle.pg_c.specs.Client.{RefusesClientBody};
 ghost use Rattle.pg_c.specs.Client.Bind.{ReadsBind, CountsBind, GivesFrontValues};
-ghost use Rattle.pg_c.specs.Read.{IfRead};
+ghost use Rattle.pg_c.specs.Read.{IfRead, LeavesRest};
 
 use crate::client::lists::codes_at;
 use crate::client::values::{name_at, values_at};
@@ -44,10 +43,8 @@ pub extern "C" fn pgmsg_read_bind(
 ) -> isize
     ensures value { IfRead result (ReadsBind body.now bind.new values.old values.new) }
     ensures fault { RefusesClientBody page.bind body.now fault.old fault.new result }
-    ensures within { pos 0 ≤ℤ result → length body.now ≤ max_body }
     ensures front { result <ℤ pos 0 → GivesFrontValues body.now values.old values.new }
-    ensures untouched { pos 0 ≤ℤ result → fault.new ≡ fault.old }
-    ensures kept { result <ℤ pos 0 → bind.new ≡ bind.old }
+    ensures left { LeavesRest body.now fault.old fault.new bind.old bind.new result }
 {
     if let Err(why) = check_body(body) {
         return report(alloc, why.into(), fault) as isize;

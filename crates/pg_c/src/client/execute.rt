@@ -1,11 +1,11 @@
 //! A portal that is run.
 
-ghost use Rattle.std.specs.Prelude.{◌≡◌, ◌≤◌, ◌<ℤ◌, ◌≤ℤ◌, pos, length, IfOk, IfErr};
+ghost use Rattle.std.specs.Prelude.{◌≡◌, ◌≤◌, ◌≤ℤ◌, pos, length, IfOk, IfErr};
 ghost use Rattle.pg_format.specs.Messages as page;
 ghost use Rattle.pg_server.specs.Frontend.Message.{HasFault};
-ghost use Rattle.pg_format.specs.Received.{max_body};
 ghost use Rattle.pg_c.specs.Client.{RefusesClientBody};
 ghost use Rattle.pg_c.specs.Client.Execute.{ReadsExecute};
+ghost use Rattle.pg_c.specs.Read.{LeavesRest};
 
 use crate::client::values::name_at;
 use crate::place::PgmsgSpan;
@@ -36,9 +36,7 @@ pub extern "C" fn pgmsg_read_execute(
     ensures result { result ≤ℤ pos 0 }
     ensures value { result ≡ pos 0 → ReadsExecute body.now execute.new }
     ensures fault { RefusesClientBody page.execute body.now fault.old fault.new result }
-    ensures within { pos 0 ≤ℤ result → length body.now ≤ max_body }
-    ensures untouched { pos 0 ≤ℤ result → fault.new ≡ fault.old }
-    ensures kept { result <ℤ pos 0 → execute.new ≡ execute.old }
+    ensures left { LeavesRest body.now fault.old fault.new execute.old execute.new result }
 {
     if let Err(why) = check_body(body) {
         return report(alloc, why.into(), fault);

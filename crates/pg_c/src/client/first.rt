@@ -1,10 +1,10 @@
 //! The first message of a connection, which has no tag.
 
-ghost use Rattle.std.specs.Prelude.{◌≡◌, ◌≤◌, ◌<ℤ◌, ◌≤ℤ◌, pos, length, Ok};
+ghost use Rattle.std.specs.Prelude.{◌≡◌, ◌≤ℤ◌, pos, Ok};
 ghost use Rattle.pg_server.specs.Frontend.FirstMessageRef as frontend;
-ghost use Rattle.pg_format.specs.Received.{max_body};
 ghost use Rattle.pg_c.specs.Client.{RefusesClientBodyFor};
 ghost use Rattle.pg_c.specs.Client.First.{BreaksFirst, IsGivenAs, ReadsFirst};
+ghost use Rattle.pg_c.specs.Read.{LeavesRest};
 
 use crate::place::{NOWHERE, PgmsgSpan};
 use crate::read::check_body;
@@ -55,9 +55,7 @@ pub extern "C" fn pgmsg_read_first(
     ensures result { result ≤ℤ pos 0 }
     ensures value { result ≡ pos 0 → ReadsFirst body.now first.new }
     ensures fault { RefusesClientBodyFor BreaksFirst body.now fault.old fault.new result }
-    ensures within { pos 0 ≤ℤ result → length body.now ≤ max_body }
-    ensures untouched { pos 0 ≤ℤ result → fault.new ≡ fault.old }
-    ensures kept { result <ℤ pos 0 → first.new ≡ first.old }
+    ensures left { LeavesRest body.now fault.old fault.new first.old first.new result }
 {
     if let Err(why) = check_body(body) {
         return report(alloc, why.into(), fault);

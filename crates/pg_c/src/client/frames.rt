@@ -1,8 +1,9 @@
 //! The message at the front of a client's stream.
 
-ghost use Rattle.std.specs.Prelude.{◌≡◌, ◌<ℤ◌, ◌≤ℤ◌, ℕ, pos, get_or};
+ghost use Rattle.std.specs.Prelude.{◌≡◌, ◌≤ℤ◌, ℕ, pos, get_or};
 ghost use Rattle.pg_frames.specs.Frontend.Frame.{IsFirstFault, IsTaggedFault, WantsMoreFirst};
 ghost use Rattle.pg_c.specs.Client.Frames.{HasTaggedFrame, IsWhole, IsWholeFirst, IsFirstPlace, Needs, NeedsFirst};
+ghost use Rattle.pg_c.specs.Read.{LeavesEither};
 ghost use Rattle.pg_c.specs.Refusal.{RefusesClientFor};
 
 use crate::place::PgmsgSpan;
@@ -36,8 +37,7 @@ pub extern "C" fn pgmsg_next_first_frame(
     ensures part_tag { result ≡ pos 0 → frame.new.tag ≡ frame.old.tag }
     ensures part_alone { result ≡ pos 0 → frame.new.body ≡ frame.old.body }
     ensures fault { RefusesClientFor (IsFirstFault limit stream.now) fault.old fault.new result }
-    ensures untouched { pos 0 ≤ℤ result → fault.new ≡ fault.old }
-    ensures kept { result <ℤ pos 0 → frame.new ≡ frame.old }
+    ensures left { LeavesEither fault.old fault.new frame.old frame.new result }
 {
     match next_frontend_frame(Expects::First, limit, stream) {
         Ok(Some(whole)) => {
@@ -94,8 +94,7 @@ pub extern "C" fn pgmsg_next_frontend_frame(
     ensures part_tag { result ≡ pos 0 → frame.new.tag ≡ get_or stream.now 0 frame.old.tag }
     ensures part_alone { result ≡ pos 0 → frame.new.body ≡ frame.old.body }
     ensures fault { RefusesClientFor (IsTaggedFault stream.now) fault.old fault.new result }
-    ensures untouched { pos 0 ≤ℤ result → fault.new ≡ fault.old }
-    ensures kept { result <ℤ pos 0 → frame.new ≡ frame.old }
+    ensures left { LeavesEither fault.old fault.new frame.old frame.new result }
 {
     match next_frontend_frame(Expects::Tagged, 0, stream) {
         Ok(Some(whole)) => {

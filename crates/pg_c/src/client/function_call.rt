@@ -1,12 +1,11 @@
 //! A call of a function by its object id, as a client sends it.
 
-ghost use Rattle.std.specs.Prelude.{◌≡◌, ◌≤◌, ◌<ℤ◌, ◌≤ℤ◌, pos, length, IfOk, IfErr};
+ghost use Rattle.std.specs.Prelude.{◌≤◌, ◌<ℤ◌, pos, length, IfOk, IfErr};
 ghost use Rattle.pg_format.specs.Messages as page;
 ghost use Rattle.pg_server.specs.Frontend.Message.{HasFault};
-ghost use Rattle.pg_format.specs.Received.{max_body};
 ghost use Rattle.pg_c.specs.Client.{RefusesClientBody};
 ghost use Rattle.pg_c.specs.Client.FunctionCall.{ReadsCall, CountsCall, GivesFrontArguments};
-ghost use Rattle.pg_c.specs.Read.{IfRead};
+ghost use Rattle.pg_c.specs.Read.{IfRead, LeavesRest};
 
 use crate::client::lists::codes_at;
 use crate::client::values::values_at;
@@ -43,10 +42,8 @@ pub extern "C" fn pgmsg_read_function_call(
 ) -> isize
     ensures value { IfRead result (ReadsCall body.now call.new arguments.old arguments.new) }
     ensures fault { RefusesClientBody page.function_call body.now fault.old fault.new result }
-    ensures within { pos 0 ≤ℤ result → length body.now ≤ max_body }
     ensures front { result <ℤ pos 0 → GivesFrontArguments body.now arguments.old arguments.new }
-    ensures untouched { pos 0 ≤ℤ result → fault.new ≡ fault.old }
-    ensures kept { result <ℤ pos 0 → call.new ≡ call.old }
+    ensures left { LeavesRest body.now fault.old fault.new call.old call.new result }
 {
     if let Err(why) = check_body(body) {
         return report(alloc, why.into(), fault) as isize;

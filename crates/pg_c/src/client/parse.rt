@@ -1,15 +1,15 @@
 //! A statement that is prepared.
 
-ghost use Rattle.std.specs.Prelude.{◌≡◌, ◌≤◌, ◌<ℤ◌, ◌≤ℤ◌, pos, length, IfOk, IfErr};
+ghost use Rattle.std.specs.Prelude.{◌≡◌, ◌≤◌, ◌≤ℤ◌, pos, length, IfOk, IfErr};
 ghost use Rattle.pg_format.specs.Format.Lists.{counted_least};
 ghost use Rattle.pg_format.specs.Format.Parts.{be_u32};
 ghost use Rattle.pg_format.specs.Messages as page;
 ghost use Rattle.pg_server.specs.Frontend.Message.{HasFault};
-ghost use Rattle.pg_format.specs.Received.{max_body};
 ghost use Rattle.pg_c.specs.Client.{RefusesClientBody};
 ghost use Rattle.pg_c.specs.Client.Parse.{ReadsParse};
 ghost use Rattle.pg_c.specs.Client.Parts.{Locates};
 ghost use Rattle.pg_c.specs.Place.{StandAt};
+ghost use Rattle.pg_c.specs.Read.{LeavesRest};
 
 use crate::client::values::{name_at, place_of_text_at};
 use crate::place::{PgmsgList, PgmsgSpan};
@@ -44,9 +44,7 @@ pub extern "C" fn pgmsg_read_parse(
     ensures result { result ≤ℤ pos 0 }
     ensures value { result ≡ pos 0 → ReadsParse body.now parse.new }
     ensures fault { RefusesClientBody page.parse body.now fault.old fault.new result }
-    ensures within { pos 0 ≤ℤ result → length body.now ≤ max_body }
-    ensures untouched { pos 0 ≤ℤ result → fault.new ≡ fault.old }
-    ensures kept { result <ℤ pos 0 → parse.new ≡ parse.old }
+    ensures left { LeavesRest body.now fault.old fault.new parse.old parse.new result }
 {
     if let Err(why) = check_body(body) {
         return report(alloc, why.into(), fault);

@@ -1,10 +1,10 @@
 //! The first answer of a client to a request for SASL.
 
-ghost use Rattle.std.specs.Prelude.{◌≡◌, ◌≤◌, ◌<ℤ◌, ◌≤ℤ◌, pos, length};
+ghost use Rattle.std.specs.Prelude.{◌≡◌, ◌≤ℤ◌, pos};
 ghost use Rattle.pg_format.specs.Messages.{sasl_initial_response};
-ghost use Rattle.pg_format.specs.Received.{max_body};
 ghost use Rattle.pg_c.specs.Client.{RefusesClientBody};
 ghost use Rattle.pg_c.specs.Client.SaslInitial.{ReadsSaslInitial};
+ghost use Rattle.pg_c.specs.Read.{LeavesRest};
 
 use crate::place::PgmsgSpan;
 use crate::read::check_body;
@@ -32,9 +32,7 @@ pub extern "C" fn pgmsg_read_sasl_initial(
     ensures result { result ≤ℤ pos 0 }
     ensures value { result ≡ pos 0 → ReadsSaslInitial body.now initial.new }
     ensures fault { RefusesClientBody sasl_initial_response body.now fault.old fault.new result }
-    ensures within { pos 0 ≤ℤ result → length body.now ≤ max_body }
-    ensures untouched { pos 0 ≤ℤ result → fault.new ≡ fault.old }
-    ensures kept { result <ℤ pos 0 → initial.new ≡ initial.old }
+    ensures left { LeavesRest body.now fault.old fault.new initial.old initial.new result }
 {
     if let Err(why) = check_body(body) {
         return report(alloc, why.into(), fault);

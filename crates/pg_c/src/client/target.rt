@@ -1,11 +1,11 @@
 //! A prepared statement or a portal that is described or closed.
 
-ghost use Rattle.std.specs.Prelude.{◌≡◌, ◌≤◌, ◌<ℤ◌, ◌≤ℤ◌, pos, length};
+ghost use Rattle.std.specs.Prelude.{◌≡◌, ◌≤ℤ◌, pos};
 ghost use Rattle.pg_format.specs.Messages as page;
 ghost use Rattle.pg_server.specs.Frontend.Page.{shown_target};
-ghost use Rattle.pg_format.specs.Received.{max_body};
 ghost use Rattle.pg_c.specs.Client.{RefusesClientBody};
 ghost use Rattle.pg_c.specs.Client.Target.{ReadsTarget};
+ghost use Rattle.pg_c.specs.Read.{LeavesRest};
 
 use crate::place::PgmsgSpan;
 use crate::read::check_body;
@@ -36,9 +36,7 @@ pub extern "C" fn pgmsg_read_target(
     ensures result { result ≤ℤ pos 0 }
     ensures value { result ≡ pos 0 → ReadsTarget body.now target.new }
     ensures fault { RefusesClientBody page.targeted body.now fault.old fault.new result }
-    ensures within { pos 0 ≤ℤ result → length body.now ≤ max_body }
-    ensures untouched { pos 0 ≤ℤ result → fault.new ≡ fault.old }
-    ensures kept { result <ℤ pos 0 → target.new ≡ target.old }
+    ensures left { LeavesRest body.now fault.old fault.new target.old target.new result }
 {
     if let Err(why) = check_body(body) {
         return report(alloc, why.into(), fault);

@@ -1,11 +1,11 @@
 //! Messages that are one text, and those that have no body.
 
-ghost use Rattle.std.specs.Prelude.{◌≡◌, ◌≤◌, ◌<ℤ◌, ◌≤ℤ◌, pos, length};
+ghost use Rattle.std.specs.Prelude.{◌≡◌, ◌≤ℤ◌, pos};
 ghost use Rattle.pg_format.specs.Format.{Means};
 ghost use Rattle.pg_format.specs.Messages as page;
-ghost use Rattle.pg_format.specs.Received.{max_body};
 ghost use Rattle.pg_c.specs.Client.{RefusesClientBody};
 ghost use Rattle.pg_c.specs.Client.Text.{ReadsText};
+ghost use Rattle.pg_c.specs.Read.{LeavesRest, LeavesFault};
 
 use crate::place::PgmsgSpan;
 use crate::read::check_body;
@@ -25,9 +25,7 @@ pub extern "C" fn pgmsg_read_text(
     ensures result { result ≤ℤ pos 0 }
     ensures value { result ≡ pos 0 → ReadsText body.now text.new }
     ensures fault { RefusesClientBody page.text body.now fault.old fault.new result }
-    ensures within { pos 0 ≤ℤ result → length body.now ≤ max_body }
-    ensures untouched { pos 0 ≤ℤ result → fault.new ≡ fault.old }
-    ensures kept { result <ℤ pos 0 → text.new ≡ text.old }
+    ensures left { LeavesRest body.now fault.old fault.new text.old text.new result }
 {
     if let Err(why) = check_body(body) {
         return report(alloc, why.into(), fault);
@@ -51,8 +49,7 @@ pub extern "C" fn pgmsg_read_no_body(alloc: Global, body: &[u8], fault: &mut Pgm
     ensures result { result ≤ℤ pos 0 }
     ensures value { result ≡ pos 0 → Means page.empty body.now tt }
     ensures fault { RefusesClientBody page.empty body.now fault.old fault.new result }
-    ensures within { pos 0 ≤ℤ result → length body.now ≤ max_body }
-    ensures untouched { pos 0 ≤ℤ result → fault.new ≡ fault.old }
+    ensures left { LeavesFault body.now fault.old fault.new result }
 {
     if let Err(why) = check_body(body) {
         return report(alloc, why.into(), fault);

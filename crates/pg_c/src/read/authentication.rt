@@ -10,7 +10,7 @@ ghost use Rattle.pg_format.specs.Received.{max_body};
 ghost use Rattle.pg_c.specs.Read.Authentication.{offered, ReadsRequest, Challenges, ReadsVerifier, MeansChallenge, MeansVerifier};
 ghost use Rattle.pg_c.specs.Read.Authentication.{IsAskedFault};
 ghost use Rattle.pg_c.specs.Place.{part};
-ghost use Rattle.pg_c.specs.Read.{AreGiven, IfRead, ReadsBody, RefusesBody};
+ghost use Rattle.pg_c.specs.Read.{AreGiven, IfRead, ReadsBody, RefusesBody, LeavesRest};
 ghost use Rattle.pg_c.specs.Refusal.{RefusesFor};
 
 use crate::place::PgmsgSpan;
@@ -58,9 +58,7 @@ pub extern "C" fn pgmsg_read_authentication(
     ensures result { result ≤ℤ pos 0 }
     ensures value { result ≡ pos 0 → ReadsRequest body.now authentication.new }
     ensures fault { RefusesBody raw_request body.now fault.old fault.new result }
-    ensures within { pos 0 ≤ℤ result → length body.now ≤ max_body }
-    ensures untouched { pos 0 ≤ℤ result → fault.new ≡ fault.old }
-    ensures kept { result <ℤ pos 0 → authentication.new ≡ authentication.old }
+    ensures left { LeavesRest body.now fault.old fault.new authentication.old authentication.new result }
 {
     match request_of(body) {
         Ok(read) => {
@@ -126,9 +124,7 @@ pub extern "C" fn pgmsg_read_challenge(
     ensures result { result ≤ℤ pos 0 }
     ensures value { Challenges body.now challenge.new salt.old salt.new nonce.old nonce.new result }
     ensures fault { RefusesFor (IsAskedFault 11 body.now) fault.old fault.new result }
-    ensures within { pos 0 ≤ℤ result → length body.now ≤ max_body }
-    ensures untouched { pos 0 ≤ℤ result → fault.new ≡ fault.old }
-    ensures kept { result <ℤ pos 0 → challenge.new ≡ challenge.old }
+    ensures left { LeavesRest body.now fault.old fault.new challenge.old challenge.new result }
     ensures salt_kept { result <ℤ pos 0 → salt.new ≡ salt.old }
     ensures nonce_kept { result <ℤ pos 0 → nonce.new ≡ nonce.old }
 {
@@ -199,9 +195,7 @@ pub extern "C" fn pgmsg_read_verifier(
 ) -> isize
     ensures value { IfRead result (ReadsVerifier body.now verifier.old verifier.new) }
     ensures fault { RefusesFor (IsAskedFault 12 body.now) fault.old fault.new result }
-    ensures within { pos 0 ≤ℤ result → length body.now ≤ max_body }
-    ensures untouched { pos 0 ≤ℤ result → fault.new ≡ fault.old }
-    ensures kept { result <ℤ pos 0 → verifier.new ≡ verifier.old }
+    ensures left { LeavesRest body.now fault.old fault.new verifier.old verifier.new result }
 {
     match verifier_of(body) {
         Ok(end) => give(&end.verifier, verifier),

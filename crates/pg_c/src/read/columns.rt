@@ -1,13 +1,13 @@
 //! The columns of a result, and the types of a statement's parameters.
 
-ghost use Rattle.std.specs.Prelude.{◌≡◌, ◌≤◌, ◌<ℤ◌, ◌≤ℤ◌, ℕ, pos, length, OnOk, IfOk, IfErr};
+ghost use Rattle.std.specs.Prelude.{◌≡◌, ◌≤◌, ◌<ℤ◌, ℕ, pos, length, OnOk, IfOk, IfErr};
 ghost use Rattle.std.specs.Option.{option_map_or};
 ghost use Rattle.pg_format.specs.Format.{IsFaultOf};
 ghost use Rattle.pg_format.specs.Messages.{parameter_description};
 ghost use Rattle.pg_receive.specs.RowDescription.Raw.{column_of_raw, raw_column, raw_row_description};
 ghost use Rattle.pg_format.specs.Received.{max_body};
 ghost use Rattle.pg_c.specs.Read.Columns.{column_in, ReadsColumns, GivesColumns, ReadsTypes, GivesTypes};
-ghost use Rattle.pg_c.specs.Read.{IfRead, IfCount, IsBodyFault, RefusesBody, SaysItem};
+ghost use Rattle.pg_c.specs.Read.{IfRead, IfCount, IsBodyFault, RefusesBody, SaysItem, LeavesFault};
 
 use crate::place::PgmsgSpan;
 use crate::read::check_body;
@@ -50,9 +50,8 @@ pub extern "C" fn pgmsg_read_columns(
 ) -> isize
     ensures columns { IfRead result (ReadsColumns body.now columns.old columns.new) }
     ensures fault { RefusesBody raw_row_description body.now fault.old fault.new result }
-    ensures within { pos 0 ≤ℤ result → length body.now ≤ max_body }
     ensures front { result <ℤ pos 0 → GivesColumns body.now columns.old columns.new }
-    ensures untouched { pos 0 ≤ℤ result → fault.new ≡ fault.old }
+    ensures left { LeavesFault body.now fault.old fault.new result }
 {
     match columns_of(body, columns) {
         Ok(count) => count as isize,
@@ -120,9 +119,8 @@ pub extern "C" fn pgmsg_read_parameter_types(
 ) -> isize
     ensures types { IfRead result (ReadsTypes body.now types.old types.new) }
     ensures fault { RefusesBody parameter_description body.now fault.old fault.new result }
-    ensures within { pos 0 ≤ℤ result → length body.now ≤ max_body }
     ensures front { result <ℤ pos 0 → GivesTypes body.now types.old types.new }
-    ensures untouched { pos 0 ≤ℤ result → fault.new ≡ fault.old }
+    ensures left { LeavesFault body.now fault.old fault.new result }
 {
     match types_of(body, types) {
         Ok(count) => count as isize,

@@ -1,11 +1,11 @@
 //! How the data of a COPY is spelled.
 
-ghost use Rattle.std.specs.Prelude.{◌≡◌, ◌≤◌, ◌<ℤ◌, ◌≤ℤ◌, pos, length, OnOk, IfOk, IfErr};
+ghost use Rattle.std.specs.Prelude.{◌≡◌, ◌≤◌, ◌<ℤ◌, pos, length, OnOk, IfOk, IfErr};
 ghost use Rattle.pg_format.specs.Format.{IsFaultOf};
 ghost use Rattle.pg_format.specs.Messages.{columns_of, copy_response};
 ghost use Rattle.pg_format.specs.Received.{max_body};
 ghost use Rattle.pg_c.specs.Read.Copy.{ReadsFormats, GivesCodes};
-ghost use Rattle.pg_c.specs.Read.{IfRead, IfCount, IsBodyFault, RefusesBody};
+ghost use Rattle.pg_c.specs.Read.{IfRead, IfCount, IsBodyFault, RefusesBody, LeavesRest};
 
 use crate::read::check_body;
 use crate::refusal::{PgmsgFault, report};
@@ -41,10 +41,8 @@ pub extern "C" fn pgmsg_read_copy_response(
 ) -> isize
     ensures formats { IfRead result (ReadsFormats body.now response.new codes.old codes.new) }
     ensures fault { RefusesBody copy_response body.now fault.old fault.new result }
-    ensures within { pos 0 ≤ℤ result → length body.now ≤ max_body }
     ensures front { result <ℤ pos 0 → GivesCodes body.now codes.old codes.new }
-    ensures untouched { pos 0 ≤ℤ result → fault.new ≡ fault.old }
-    ensures kept { result <ℤ pos 0 → response.new ≡ response.old }
+    ensures left { LeavesRest body.now fault.old fault.new response.old response.new result }
 {
     match codes_of(body, response, codes) {
         Ok(count) => count as isize,

@@ -1,12 +1,12 @@
 //! Where the parts of a body end.
 
-ghost use Rattle.std.specs.Prelude.{◌≡◌, ◌≤◌, ◌≤ℤ◌, pos, length, OnOk, IfOk, IfErr};
+ghost use Rattle.std.specs.Prelude.{◌≤◌, length, OnOk, IfOk, IfErr};
 ghost use Rattle.pg_format.specs.Format.{IsFaultOf};
 ghost use Rattle.pg_format.specs.Format.Places.{EndsAt};
 ghost use Rattle.pg_receive.specs.Layout.{layout};
 ghost use Rattle.pg_format.specs.Received.{max_body};
 ghost use Rattle.pg_c.specs.Read.End.{GivesEnd, IsEndFault};
-ghost use Rattle.pg_c.specs.Read.{IfRead, IsBodyFault};
+ghost use Rattle.pg_c.specs.Read.{IfRead, IsBodyFault, LeavesFault};
 ghost use Rattle.pg_c.specs.Refusal.{RefusesFor};
 
 use crate::read::check_body;
@@ -29,8 +29,7 @@ pub extern "C" fn pgmsg_read_end(
 ) -> isize
     ensures end { IfRead result (GivesEnd tag body.now) }
     ensures fault { RefusesFor (IsEndFault tag body.now) fault.old fault.new result }
-    ensures within { pos 0 ≤ℤ result → length body.now ≤ max_body }
-    ensures untouched { pos 0 ≤ℤ result → fault.new ≡ fault.old }
+    ensures left { LeavesFault body.now fault.old fault.new result }
 {
     let kind = match BackendMessageFormat::try_from_u8(tag) {
         Ok(kind) => kind,

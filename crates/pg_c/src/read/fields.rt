@@ -1,13 +1,13 @@
 //! The fields of an error or a notice, and how grave it is.
 
-ghost use Rattle.std.specs.Prelude.{◌≡◌, ◌≤◌, ◌≤ℤ◌, pos, length, OnOk, IfOk, IfErr};
+ghost use Rattle.std.specs.Prelude.{◌≡◌, ◌≤◌, pos, length, OnOk, IfOk, IfErr};
 ghost use Rattle.pg_receive.specs.Response.Fields.{fields_in};
 ghost use Rattle.pg_receive.specs.Response.Severity.{severity_number};
 ghost use Rattle.pg_format.specs.Format.{IsFaultOf};
 ghost use Rattle.pg_receive.specs.Response.{notices};
 ghost use Rattle.pg_format.specs.Received.{max_body};
 ghost use Rattle.pg_c.specs.Read.Fields.{field_in, IsSeverityOf};
-ghost use Rattle.pg_c.specs.Read.{AreGiven, IfRead, IsBodyFault, RefusesBody};
+ghost use Rattle.pg_c.specs.Read.{AreGiven, IfRead, IsBodyFault, RefusesBody, LeavesFault};
 
 use crate::place::PgmsgSpan;
 use crate::refusal::{PgmsgFault, report};
@@ -55,8 +55,7 @@ pub extern "C" fn pgmsg_read_fields(body: &[u8], fields: &mut [PgmsgField]) -> u
 pub extern "C" fn pgmsg_read_severity(alloc: Global, body: &[u8], fault: &mut PgmsgFault) -> i32
     ensures severity { IfRead result (IsSeverityOf body.now) }
     ensures fault { RefusesBody notices body.now fault.old fault.new result }
-    ensures within { pos 0 ≤ℤ result → length body.now ≤ max_body }
-    ensures untouched { pos 0 ≤ℤ result → fault.new ≡ fault.old }
+    ensures left { LeavesFault body.now fault.old fault.new result }
 {
     match severity_of(body) {
         Ok(severity) => severity as i32,

@@ -2,7 +2,7 @@
 
 ghost use Rattle.std.specs.Prelude.{◌≡◌, ◌+◌, ◌<◌, ◌≤◌, ◌<ℤ◌, ◌≤ℤ◌, ℕ, List, pos, drop, length, get_or, IfOk, IfErr};
 ghost use Rattle.pg_frames.specs.Stream.Raw.{WantsMore, HasBadLength};
-ghost use Rattle.pg_c.specs.Read.{IfRead, IfCount};
+ghost use Rattle.pg_c.specs.Read.{IfRead, IfCount, LeavesEither};
 ghost use Rattle.pg_c.specs.Read.Frame.{HasFrame, IsWhole, Needs, ReadsFrames, StandsAt};
 ghost use Rattle.pg_c.specs.Refusal.{RefusesFor};
 
@@ -41,8 +41,7 @@ pub extern "C" fn pgmsg_next_frame(
     ensures part_tag { result ≡ pos 0 → frame.new.tag ≡ get_or stream.now 0 frame.old.tag }
     ensures part_alone { result ≡ pos 0 → frame.new.body ≡ frame.old.body }
     ensures fault { RefusesFor (HasBadLength stream.now) fault.old fault.new result }
-    ensures untouched { pos 0 ≤ℤ result → fault.new ≡ fault.old }
-    ensures kept { result <ℤ pos 0 → frame.new ≡ frame.old }
+    ensures left { LeavesEither fault.old fault.new frame.old frame.new result }
 {
     match next_raw_frame(stream) {
         Ok(Some(whole)) => {
@@ -74,8 +73,7 @@ pub extern "C" fn pgmsg_next_frames(
     ensures frames { IfRead result (ReadsFrames stream.now frames.old frames.new) }
     ensures fault { RefusesFor (HasBadLength stream.now) fault.old fault.new result }
     ensures room { result <ℤ pos 0 → 0 < length frames.old }
-    ensures untouched { pos 0 ≤ℤ result → fault.new ≡ fault.old }
-    ensures kept { result <ℤ pos 0 → frames.new ≡ frames.old }
+    ensures left { LeavesEither fault.old fault.new frames.old frames.new result }
 {
     match frames_of(stream, frames) {
         Ok(count) => count as isize,

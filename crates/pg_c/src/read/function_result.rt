@@ -1,10 +1,10 @@
 //! The result of a function that was called.
 
-ghost use Rattle.std.specs.Prelude.{◌≡◌, ◌≤◌, ◌<ℤ◌, ◌≤ℤ◌, pos, length, OnOk, IfOk, IfErr};
+ghost use Rattle.std.specs.Prelude.{◌≡◌, ◌≤◌, ◌≤ℤ◌, pos, length, OnOk, IfOk, IfErr};
 ghost use Rattle.pg_format.specs.Format.{IsFaultOf};
 ghost use Rattle.pg_format.specs.Messages.{function_call_response};
 ghost use Rattle.pg_format.specs.Received.{max_body};
-ghost use Rattle.pg_c.specs.Read.{IsBodyFault, RefusesBody};
+ghost use Rattle.pg_c.specs.Read.{IsBodyFault, RefusesBody, LeavesRest};
 ghost use Rattle.pg_c.specs.Read.FunctionResult.{ReadsResult};
 
 use crate::read::check_body;
@@ -26,9 +26,7 @@ pub extern "C" fn pgmsg_read_function_result(
     ensures result { result ≤ℤ pos 0 }
     ensures value { result ≡ pos 0 → ReadsResult body.now value.new }
     ensures fault { RefusesBody function_call_response body.now fault.old fault.new result }
-    ensures within { pos 0 ≤ℤ result → length body.now ≤ max_body }
-    ensures untouched { pos 0 ≤ℤ result → fault.new ≡ fault.old }
-    ensures kept { result <ℤ pos 0 → value.new ≡ value.old }
+    ensures left { LeavesRest body.now fault.old fault.new value.old value.new result }
 {
     match result_of(body) {
         Ok(read) => {

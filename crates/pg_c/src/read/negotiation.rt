@@ -1,10 +1,10 @@
 //! The version of the protocol that a server speaks in place of the one that was asked for.
 
-ghost use Rattle.std.specs.Prelude.{◌≡◌, ◌≤◌, ◌<ℤ◌, ◌≤ℤ◌, pos, length, OnOk, IfOk, IfErr};
+ghost use Rattle.std.specs.Prelude.{◌≡◌, ◌≤◌, ◌<ℤ◌, pos, length, OnOk, IfOk, IfErr};
 ghost use Rattle.pg_format.specs.Format.{IsFaultOf};
 ghost use Rattle.pg_format.specs.Messages.{negotiate_protocol_version};
 ghost use Rattle.pg_format.specs.Received.{max_body};
-ghost use Rattle.pg_c.specs.Read.{IfRead, IfCount, IsBodyFault, RefusesBody};
+ghost use Rattle.pg_c.specs.Read.{IfRead, IfCount, IsBodyFault, RefusesBody, LeavesRest};
 ghost use Rattle.pg_c.specs.Read.Negotiation.{ReadsNegotiation, GivesOptions};
 
 use crate::place::PgmsgSpan;
@@ -41,10 +41,8 @@ pub extern "C" fn pgmsg_read_negotiate_version(
 ) -> isize
     ensures value { IfRead result (ReadsNegotiation body.now version.new options.old options.new) }
     ensures fault { RefusesBody negotiate_protocol_version body.now fault.old fault.new result }
-    ensures within { pos 0 ≤ℤ result → length body.now ≤ max_body }
     ensures front { result <ℤ pos 0 → GivesOptions body.now options.old options.new }
-    ensures untouched { pos 0 ≤ℤ result → fault.new ≡ fault.old }
-    ensures kept { result <ℤ pos 0 → version.new ≡ version.old }
+    ensures left { LeavesRest body.now fault.old fault.new version.old version.new result }
 {
     match options_of(body, version, options) {
         Ok(count) => count as isize,

@@ -6,7 +6,7 @@ ghost use Rattle.pg_format.specs.Format.Nullable.{cell};
 ghost use Rattle.pg_format.specs.Format.Parts.{be_u16};
 ghost use Rattle.pg_format.specs.Messages.{data_row};
 ghost use Rattle.pg_format.specs.Received.{max_body};
-ghost use Rattle.pg_c.specs.Read.{IfRead, IsBodyFault, RefusesBody, SaysItem};
+ghost use Rattle.pg_c.specs.Read.{IfRead, IsBodyFault, RefusesBody, SaysItem, LeavesFault};
 ghost use Rattle.pg_c.specs.Read.Row.{cell_in, FindsCell, ReadsRow, GivesCells, GivesFrontCells};
 ghost use Rattle.pg_c.specs.Read.Row.{ReadsRowAfter, GivesRowFrontAfter, IsRowFaultAfter, RefusesRowAfter};
 
@@ -43,9 +43,8 @@ pub extern "C" fn pgmsg_read_row(
 ) -> isize
     ensures row { IfRead result (ReadsRow body.now cells.old cells.new) }
     ensures fault { RefusesBody data_row body.now fault.old fault.new result }
-    ensures within { pos 0 ≤ℤ result → length body.now ≤ max_body }
     ensures front { result <ℤ pos 0 → GivesFrontCells body.now cells.old cells.new }
-    ensures untouched { pos 0 ≤ℤ result → fault.new ≡ fault.old }
+    ensures left { LeavesFault body.now fault.old fault.new result }
 {
     let count = match count_of(body) {
         Ok(count) => count,

@@ -1,14 +1,13 @@
 //! Notifications, settings, keys, and what a command and a session report of themselves.
 
-ghost use Rattle.std.specs.Prelude.{◌≡◌, ◌≤◌, ◌<ℤ◌, ◌≤ℤ◌, pos, length};
+ghost use Rattle.std.specs.Prelude.{◌≡◌, ◌≤ℤ◌, pos};
 ghost use Rattle.pg_format.specs.Messages as page;
 ghost use Rattle.pg_receive.specs.BackendKeyData.{raw_key_data, raw_key};
 ghost use Rattle.pg_receive.specs.CommandComplete.{tag_text};
 ghost use Rattle.pg_receive.specs.Notification.{notification_borrowed};
 ghost use Rattle.pg_receive.specs.ParameterStatus.{raw_parameter_status, raw_setting};
 ghost use Rattle.pg_receive.specs.ReadyForQuery.{ready_shown};
-ghost use Rattle.pg_format.specs.Received.{max_body};
-ghost use Rattle.pg_c.specs.Read.{IfRead, ReadsBody, RefusesBody};
+ghost use Rattle.pg_c.specs.Read.{IfRead, ReadsBody, RefusesBody, LeavesRest, LeavesFault};
 ghost use Rattle.pg_c.specs.Read.Status.{ReadsNotification, ReadsSetting, ReadsKey, ReadsCommand, IsStatusLetter};
 
 use crate::place::PgmsgSpan;
@@ -69,9 +68,7 @@ pub extern "C" fn pgmsg_read_notification(
     ensures result { result ≤ℤ pos 0 }
     ensures value { result ≡ pos 0 → ReadsNotification body.now notification.new }
     ensures fault { RefusesBody page.notification body.now fault.old fault.new result }
-    ensures within { pos 0 ≤ℤ result → length body.now ≤ max_body }
-    ensures untouched { pos 0 ≤ℤ result → fault.new ≡ fault.old }
-    ensures kept { result <ℤ pos 0 → notification.new ≡ notification.old }
+    ensures left { LeavesRest body.now fault.old fault.new notification.old notification.new result }
 {
     match notification_of(body) {
         Ok(read) => {
@@ -111,9 +108,7 @@ pub extern "C" fn pgmsg_read_parameter_status(
     ensures result { result ≤ℤ pos 0 }
     ensures value { result ≡ pos 0 → ReadsSetting body.now status.new }
     ensures fault { RefusesBody raw_parameter_status body.now fault.old fault.new result }
-    ensures within { pos 0 ≤ℤ result → length body.now ≤ max_body }
-    ensures untouched { pos 0 ≤ℤ result → fault.new ≡ fault.old }
-    ensures kept { result <ℤ pos 0 → status.new ≡ status.old }
+    ensures left { LeavesRest body.now fault.old fault.new status.old status.new result }
 {
     match setting_of(body) {
         Ok(read) => {
@@ -152,9 +147,7 @@ pub extern "C" fn pgmsg_read_key_data(
     ensures result { result ≤ℤ pos 0 }
     ensures value { result ≡ pos 0 → ReadsKey body.now key.new }
     ensures fault { RefusesBody raw_key_data body.now fault.old fault.new result }
-    ensures within { pos 0 ≤ℤ result → length body.now ≤ max_body }
-    ensures untouched { pos 0 ≤ℤ result → fault.new ≡ fault.old }
-    ensures kept { result <ℤ pos 0 → key.new ≡ key.old }
+    ensures left { LeavesRest body.now fault.old fault.new key.old key.new result }
 {
     match key_of(body) {
         Ok(read) => {
@@ -190,9 +183,7 @@ pub extern "C" fn pgmsg_read_command_complete(
     ensures result { result ≤ℤ pos 0 }
     ensures value { result ≡ pos 0 → ReadsCommand body.now command.new }
     ensures fault { RefusesBody tag_text body.now fault.old fault.new result }
-    ensures within { pos 0 ≤ℤ result → length body.now ≤ max_body }
-    ensures untouched { pos 0 ≤ℤ result → fault.new ≡ fault.old }
-    ensures kept { result <ℤ pos 0 → command.new ≡ command.old }
+    ensures left { LeavesRest body.now fault.old fault.new command.old command.new result }
 {
     match tag_of(body) {
         Ok(text) => {
@@ -222,8 +213,7 @@ fn tag_of(body: &[u8]) -> Result<&[u8], ProtocolFault>
 pub extern "C" fn pgmsg_read_ready(alloc: Global, body: &[u8], fault: &mut PgmsgFault) -> i32
     ensures value { IfRead result (IsStatusLetter body.now) }
     ensures fault { RefusesBody page.ready_for_query body.now fault.old fault.new result }
-    ensures within { pos 0 ≤ℤ result → length body.now ≤ max_body }
-    ensures untouched { pos 0 ≤ℤ result → fault.new ≡ fault.old }
+    ensures left { LeavesFault body.now fault.old fault.new result }
 {
     match status_of(body) {
         Ok(ready) => ready.transaction_status as i32,

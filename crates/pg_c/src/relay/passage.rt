@@ -1,6 +1,7 @@
 //! What is at the front of a stream that is passed on.
 
 ghost use Rattle.std.specs.Prelude.{◌≡◌, ◌<◌, ◌<ℤ◌, ◌≤ℤ◌, pos};
+ghost use Rattle.pg_c.specs.Read.{LeavesEither};
 ghost use Rattle.pg_c.specs.Relay.Passage.{is_asked, GoesAll, GoesPart, NeedsBytes, RefusesPassage};
 
 use crate::refusal::PgmsgFault;
@@ -66,8 +67,8 @@ pub extern "C" fn pgmsg_relay_next(
     ensures needs_alone { result ≡ pos 0 → relay.new ≡ relay.old }
     ensures fault { RefusesPassage wanted.now relay.old stream.now fault.old fault.new result }
     ensures between { result <ℤ pos 0 → relay.old.left ≡ 0 }
-    ensures untouched { pos 0 ≤ℤ result → fault.new ≡ fault.old }
-    ensures kept { result <ℤ pos 0 → (passage.new ≡ passage.old) × (relay.new ≡ relay.old) }
+    ensures left { LeavesEither fault.old fault.new passage.old passage.new result }
+    ensures relay { result <ℤ pos 0 → relay.new ≡ relay.old }
 {
     let expects = expects_of(relay.is_first);
     let wanted = Wanted { flags: wanted };

@@ -3,6 +3,7 @@
 ghost use Rattle.std.specs.Prelude.{◌≡◌, ◌<ℤ◌, ◌≤ℤ◌, pos};
 ghost use Rattle.pg_frames.specs.Relay.Answer.{IsRun};
 ghost use Rattle.pg_frames.specs.declared.relay.error.RelayError.TheVariants.{NotFrames};
+ghost use Rattle.pg_c.specs.Read.{LeavesEither};
 ghost use Rattle.pg_c.specs.Relay.{expected, AreNoFrames};
 ghost use Rattle.pg_c.specs.Relay.Refusal.{IsRelayReport};
 
@@ -25,8 +26,7 @@ pub extern "C" fn pgmsg_check_frames(
     ensures run { result ≡ pos 0 → IsRun (expected is_first.old) bytes.now (expected is_first.new) }
     ensures none { result <ℤ pos 0 → AreNoFrames is_first.old bytes.now }
     ensures fault { result <ℤ pos 0 → IsRelayReport NotFrames fault.old fault.new result }
-    ensures untouched { pos 0 ≤ℤ result → fault.new ≡ fault.old }
-    ensures kept { result <ℤ pos 0 → is_first.new ≡ is_first.old }
+    ensures left { LeavesEither fault.old fault.new is_first.old is_first.new result }
 {
     let Some(last) = end_of_run(expects_of(*is_first), bytes) else {
         return report_relay(alloc, RelayError::NotFrames, fault);

@@ -1,10 +1,9 @@
 //! The messages of replication, read where they are.
 
-ghost use Rattle.std.specs.Prelude.{◌≡◌, ◌≤◌, ◌<ℤ◌, ◌≤ℤ◌, pos, length, Ok};
-ghost use Rattle.pg_format.specs.Received.{max_body};
+ghost use Rattle.std.specs.Prelude.{◌≡◌, ◌≤ℤ◌, pos, Ok};
 ghost use Rattle.pg_replication.specs.ReplicationMessage.{ReadsReplication};
 ghost use Rattle.pg_c.specs.Place.{span_of};
-ghost use Rattle.pg_c.specs.Read.{IsBodyFault};
+ghost use Rattle.pg_c.specs.Read.{IsBodyFault, LeavesRest};
 ghost use Rattle.pg_c.specs.Refusal.{RefusesFor};
 ghost use Rattle.pg_c.specs.Replication.{BreaksReplication, ReadsMessage, ReadsContent, IsGivenAs};
 ghost use Rattle.pg_c.specs.Replication.{given_log, given_keepalive, given_status, given_feedback};
@@ -88,9 +87,7 @@ pub extern "C" fn pgmsg_read_replication(
     ensures result { result ≤ℤ pos 0 }
     ensures value { result ≡ pos 0 → ReadsMessage content.now message.new }
     ensures fault { RefusesFor (IsBodyFault BreaksReplication content.now) fault.old fault.new result }
-    ensures within { pos 0 ≤ℤ result → length content.now ≤ max_body }
-    ensures untouched { pos 0 ≤ℤ result → fault.new ≡ fault.old }
-    ensures kept { result <ℤ pos 0 → message.new ≡ message.old }
+    ensures left { LeavesRest content.now fault.old fault.new message.old message.new result }
 {
     match message_of(content) {
         Ok(read) => {

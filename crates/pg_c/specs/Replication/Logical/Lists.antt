@@ -20,13 +20,13 @@ use Rattle.pg_c.specs.declared.replication.logical.read.PgmsgLogical.{PgmsgLogic
 use Rattle.pg_c.specs.declared.replication.logical.lists.PgmsgTableColumn.{PgmsgTableColumn}
 
 -- a value that isn't sent has the place of nothing
-abbrev pub unsent : PgmsgSpan → Datum → Option Datum
-unsent place value = if place.at + place.len == 0 then Some value else None
+abbrev pub without_value : PgmsgSpan → Datum → Option Datum
+without_value place value = if place.at + place.len == 0 then Some value else None
 
 abbrev pub datum_in : List ℕ → PgmsgDatum → Option Datum
 datum_in bytes d =
-    if d.kind == 110 then unsent d.value null
-    else if d.kind == 117 then unsent d.value unchanged
+    if d.kind == 110 then without_value d.value null
+    else if d.kind == 117 then without_value d.value unchanged
     else if d.kind == 116 then option_map text (part bytes d.value)
     else if d.kind == 98 then option_map binary (part bytes d.value)
     else None

@@ -1,6 +1,6 @@
 //! The lists of a message of logical replication: the values of a row, and the columns of a table.
 
-ghost use Rattle.std.specs.Prelude.{◌≡◌, ◌+◌, ◌≤◌, ◌<ℤ◌, ◌≤ℤ◌, ℕ, pos, List, length, get_or, Option};
+ghost use Rattle.std.specs.Prelude.{◌≡◌, ◌+◌, ◌≤◌, ◌<ℤ◌, ℕ, pos, List, length, get_or, Option};
 ghost use Rattle.std.specs.Prelude.{◌≢◌, ◌⊎◌, true, false, OnOk, OnErr, IfErr, IfOk, IfSome, IfNone};
 ghost use Rattle.pg_format.specs.Format.Lists.{times};
 ghost use Rattle.pg_format.specs.Format.{Format};
@@ -10,7 +10,7 @@ ghost use Rattle.pg_format.specs.Received.{max_body};
 ghost use Rattle.pg_replication.specs.Logical.TableColumns.{shown_column};
 ghost use Rattle.pg_replication.specs.Logical.Tuple.{shown_datum};
 ghost use Rattle.pg_c.specs.Place.{nowhere, span_of};
-ghost use Rattle.pg_c.specs.Read.{IfRead, IsBodyFault};
+ghost use Rattle.pg_c.specs.Read.{IfRead, IsBodyFault, LeavesFault};
 ghost use Rattle.pg_c.specs.Replication.Logical.Lists.{datum_in, column_in, IsPlaceOf, PlacesAt, Finds};
 ghost use Rattle.pg_c.specs.Replication.Logical.Lists.{GivesUpTo, GivesAll, GivesSomeOf};
 ghost use Rattle.pg_c.specs.Replication.Logical.Lists.{AllAfter, FewAfter, FaultAfter};
@@ -65,9 +65,8 @@ pub extern "C" fn pgmsg_read_tuple(
     ensures values { IfRead result (ReadsDatums content.now list values.old values.new) }
     ensures there { result <ℤ pos 0 → IsNotThere datum list content.now }
     ensures fault { RefusesList datum list content.now fault.old fault.new result }
-    ensures within { pos 0 ≤ℤ result → length content.now ≤ max_body }
     ensures front { result <ℤ pos 0 → GivesDatums content.now list values.old values.new }
-    ensures untouched { pos 0 ≤ℤ result → fault.new ≡ fault.old }
+    ensures left { LeavesFault content.now fault.old fault.new result }
 {
     match read_list::<PgmsgDatum>(content, list, values) {
         Ok(()) => list.count as isize,
@@ -88,9 +87,8 @@ pub extern "C" fn pgmsg_read_table_columns(
     ensures columns { IfRead result (ReadsTableColumns content.now list columns.old columns.new) }
     ensures there { result <ℤ pos 0 → IsNotThere column list content.now }
     ensures fault { RefusesList column list content.now fault.old fault.new result }
-    ensures within { pos 0 ≤ℤ result → length content.now ≤ max_body }
     ensures front { result <ℤ pos 0 → GivesTableColumns content.now list columns.old columns.new }
-    ensures untouched { pos 0 ≤ℤ result → fault.new ≡ fault.old }
+    ensures left { LeavesFault content.now fault.old fault.new result }
 {
     match read_list::<PgmsgTableColumn>(content, list, columns) {
         Ok(()) => list.count as isize,
@@ -247,36 +245,36 @@ fn put_datum(content: &[u8], at: usize, to: &mut PgmsgDatum) -> Option<usize>
     if at + BEFORE_VALUE <= content.len() {
         let kind = content[at];
         if is_one_of(kind, b't', b'b') {
-            return put_sent(content, at, to);
+            return put_with_value(content, at, to);
         }
         if kind == b'n' {
-            return Some(put_unsent(kind, at, to));
+            return Some(put_without_value(kind, at, to));
         }
     }
-    put_last(content, at, to)
+    put_null_or_unchanged(content, at, to)
 }
 
 // The same at the end of a message, or of a value that wasn't changed. A test of all four letters at once would be a jump by a
 // table.
 #[inline(always)]
-fn put_last(content: &[u8], at: usize, to: &mut PgmsgDatum) -> Option<usize>
+fn put_null_or_unchanged(content: &[u8], at: usize, to: &mut PgmsgDatum) -> Option<usize>
     requires within { at ≤ length content.now }
     requires short { length content.now ≤ MAX_BODY }
     ensures found { IfSome result (λ end. Finds datum datum_in content.now at to.new end) }
     ensures kept { IfNone result (to.new ≡ to.old) }
 {
     if at < content.len() && is_one_of(content[at], b'n', b'u') {
-        return Some(put_unsent(content[at], at, to));
+        return Some(put_without_value(content[at], at, to));
     }
     None
 }
 
 // Gives the place of a value that is sent: the offset after it; nothing where the message ends before.
 #[inline(always)]
-fn put_sent(content: &[u8], at: usize, to: &mut PgmsgDatum) -> Option<usize>
+fn put_with_value(content: &[u8], at: usize, to: &mut PgmsgDatum) -> Option<usize>
     requires within { at + 5 ≤ length content.now }
     requires short { length content.now ≤ MAX_BODY }
-    requires sent { (get_or content.now at 0 ≡ 116) ⊎ (get_or content.now at 0 ≡ 98) }
+    requires kind { (get_or content.now at 0 ≡ 116) ⊎ (get_or content.now at 0 ≡ 98) }
     ensures found { IfSome result (λ end. Finds datum datum_in content.now at to.new end) }
     ensures kept { IfNone result (to.new ≡ to.old) }
 {
@@ -302,7 +300,7 @@ pub(crate) fn is_one_of(letter: u8, one: u8, other: u8) -> bool
 
 // Gives the place of a value that isn't sent, whose letter stands at an offset: the offset after it.
 #[inline(always)]
-fn put_unsent(kind: u8, at: usize, to: &mut PgmsgDatum) -> usize
+fn put_without_value(kind: u8, at: usize, to: &mut PgmsgDatum) -> usize
     requires { at ≤ MAX_BODY }
     ensures place { to.new ≡ record { kind = kind; value = nowhere } }
     ensures after { result ≡ at + 1 }
@@ -318,15 +316,15 @@ fn place_of_datum(at: usize, value: &Datum<'_>) -> PgmsgDatum
     ensures { IsPlaceOf datum datum_in at (shown_datum value.now) result }
 {
     match value {
-        Datum::Null => unsent(b'n'),
-        Datum::Unchanged => unsent(b'u'),
-        Datum::Text(text) => sent(b't', at, text),
-        Datum::Binary(bytes) => sent(b'b', at, bytes),
+        Datum::Null => without_value(b'n'),
+        Datum::Unchanged => without_value(b'u'),
+        Datum::Text(text) => with_value(b't', at, text),
+        Datum::Binary(bytes) => with_value(b'b', at, bytes),
     }
 }
 
 // A value that isn't sent.
-fn unsent(kind: u8) -> PgmsgDatum
+fn without_value(kind: u8) -> PgmsgDatum
     ensures { result ≡ record { kind = kind; value = nowhere } }
 {
     PgmsgDatum {
@@ -336,7 +334,7 @@ fn unsent(kind: u8) -> PgmsgDatum
 }
 
 // A value after its letter and its length.
-fn sent(kind: u8, at: usize, value: &[u8]) -> PgmsgDatum
+fn with_value(kind: u8, at: usize, value: &[u8]) -> PgmsgDatum
     requires { at ≤ MAX_BODY }
     ensures { result ≡ record { kind = kind; value = span_of (at + 5) value.now } }
 {

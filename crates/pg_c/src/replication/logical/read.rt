@@ -5,7 +5,7 @@ ghost use Rattle.std.specs.Prelude.{IfErr, IfOk, OnErr, OnOk};
 ghost use Rattle.pg_format.specs.Received.{max_body};
 ghost use Rattle.pg_replication.specs.Logical.{ReadsLogical, streamed_after};
 ghost use Rattle.pg_c.specs.Replication.Logical.{begun, IsGivenAs, ReadsChange};
-ghost use Rattle.pg_c.specs.Read.{IfCount, IfRead, IsBodyFault};
+ghost use Rattle.pg_c.specs.Read.{IfCount, IfRead, IsBodyFault, LeavesRest};
 ghost use Rattle.pg_c.specs.Replication.Logical.{BreaksLogical, ReadsLogicalContent, RefusesLogical};
 ghost use Rattle.pg_c.specs.Replication.Logical.Lists.{ReadsNewRow};
 ghost use Rattle.pg_c.specs.Replication.Logical.NewRow.{GivesNewFront};
@@ -119,10 +119,8 @@ pub extern "C" fn pgmsg_read_logical(
     ensures read { pos 0 ≤ℤ result → ReadsChange content.now streamed.old streamed.new message.new }
     ensures row { IfRead result (ReadsNewRow content.now message.new values.old values.new) }
     ensures fault { RefusesLogical streamed.old content.now fault.old fault.new result }
-    ensures within { pos 0 ≤ℤ result → length content.now ≤ max_body }
     ensures front { result <ℤ pos 0 → GivesNewFront streamed.old content.now values.old values.new }
-    ensures untouched { pos 0 ≤ℤ result → fault.new ≡ fault.old }
-    ensures kept { result <ℤ pos 0 → message.new ≡ message.old }
+    ensures left { LeavesRest content.now fault.old fault.new message.old message.new result }
     ensures unchanged { result <ℤ pos 0 → streamed.new ≡ streamed.old }
 {
     let Some(list) = new_row_of(content, *streamed) else {

@@ -2,8 +2,8 @@ use Rattle.std.proofs.Common.{◌≡◌, ◌+◌, ◌-◌, ◌≤◌, length, ta
 use Rattle.byteorder.specs.Endian.{big_number}
 use Rattle.pg_base.specs.Reading.{Number}
 use Rattle.pg_base.proofs.NumbersLemmas.{number_4, wide_enough, number_at}
-use Rattle.pg_c.proofs.LogicalListsLemmas.{sent_found}
-use Rattle.pg_c.proofs.replication.logical.lists.put_sent.Goals as goal
+use Rattle.pg_c.proofs.LogicalListsLemmas.{with_value_found}
+use Rattle.pg_c.proofs.replication.logical.lists.put_with_value.Goals as goal
 
 pub returns-clause-found : goal.returns-clause-found
 returns-clause-found c =
@@ -16,4 +16,4 @@ returns-clause-found c =
     let is : n ≡ big_number 4 (take 4 (drop (at + 1) body)) = rw count at c.read_u32-len.ensures in
     let number : Number 4 (drop (at + 1) body) n (drop (at + 5) body) =
     rw place at (number_at body (at + 1) 4 n fits (is ∙ number_4 (take 4 (drop (at + 1) body)) (wide_enough body (at + 1) 4 fits))) in
-    sent_found body at n (omega (arith, c.if-end-content.false)) c.requires.sent number
+    with_value_found body at n (omega (arith, c.if-end-content.false)) c.requires.kind number
