@@ -1,0 +1,13 @@
+pub mod ClientFlowLemmas
+pub mod DeriveLemmas
+mod Examples
+pub mod PatternLemmas
+pub mod PlainLemmas
+pub mod RestLemmas
+pub mod ServerFlowLemmas
+pub mod SessionsExactLemmas
+pub mod SessionsLemmas
+pub mod StageLemmas
+pub mod TableExactLemmas
+pub mod TableLemmas
+pub mod WorldLemmas

@@ -1,0 +1,10 @@
+-- What may be done while an answer has come so far.
+use Rattle.pg_flow.specs.declared.mode.Mode.TheVariants as modes
+use Rattle.pg_flow.specs.declared.mode.Mode.{Mode}
+use Rattle.pg_flow.specs.declared.place.Place.{Place}
+use Rattle.pg_flow.specs.declared.place.Place.TheVariants.{Asked, Out}
+
+abbrev pub mode_in : Place → Mode
+mode_in Asked = modes.CopyIn
+mode_in Out = modes.CopyOut
+mode_in _ = modes.Busy
