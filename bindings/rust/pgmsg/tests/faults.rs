@@ -2,7 +2,7 @@
 //! reader and each writer refuses the tests of the C library have, and `hostile` that no reader takes it here. Each number of
 //! the header has its refusal, of the same name.
 
-use pgmsg::backend::{self, Column, CopyResponse, Field, FieldKind, Severity};
+use pgmsg::backend::{self, Column, CopyResponse, Field, FieldKind, Severity, TransactionStatus};
 use pgmsg::frontend::{self, copy_head, Bind, Message, Parse, Startup};
 use pgmsg::{Fault, Format, Refusal, Refusal::*, Value};
 use std::collections::BTreeMap;
@@ -51,12 +51,26 @@ fn severities() {
     let words = ["PANIC", "FATAL", "ERROR", "WARNING", "NOTICE", "DEBUG", "INFO", "LOG"];
     use Severity::*;
     let all = [Panic, Fatal, Error, Warning, Notice, Debug, Info, Log];
-    for (word, expected) in words.into_iter().zip(all) {
+    for (level, (word, expected)) in (0..).zip(words.into_iter().zip(all)) {
         assert_eq!(Severity::read(format!("V{word}\0\0").as_bytes()), Ok(expected));
+        assert_eq!(expected.to_string(), word);
+        assert_eq!((Severity::try_from(level), expected as u8), (Ok(expected), level));
         assert_eq!(expected.is_error(), ["PANIC", "FATAL", "ERROR"].contains(&word));
     }
+    assert_eq!(Severity::try_from(8), Err(UnknownSeverity));
     assert_eq!(Severity::read(b"VNOPE\0\0").map_err(|it| it.refusal), Err(UnknownSeverity));
     assert_eq!(Severity::read(b"M\xff\0\0").map_err(|it| it.refusal), Err(NoticeNotUtf8));
+}
+
+#[test]
+fn every_letter_of_a_status() {
+    for letter in 0..=u8::MAX {
+        match TransactionStatus::try_from(letter) {
+            Ok(status) => assert_eq!(status.letter(), letter),
+            Err(fault) => assert_eq!(fault.refusal, UnknownStatus),
+        }
+        assert_eq!(TransactionStatus::try_from(letter).is_ok(), b"ITE".contains(&letter));
+    }
 }
 
 #[test]

@@ -1,5 +1,5 @@
 //! The interface of the crate `postgres-protocol` 0.6, whose messages are written and read by
-//! [`pgmsg`], over a library whose code is proved.
+//! [`pgmsg`], over a core whose sources are proved.
 //!
 //! [`message::frontend`] and [`message::backend`] have the names and the signatures of
 //! `postgres-protocol`. All else is passed on from it. A driver takes this crate in its place by a
