@@ -32,6 +32,30 @@ impl Address {
             false => Address::Tcp { host: host.to_owned(), port },
         }
     }
+
+    /// The host and the port by which a client of this machine finds what listens there, as libpq takes them. A socket of another
+    /// name than the usual one has none.
+    pub fn for_client(&self) -> Option<(String, u16)> {
+        match self {
+            Address::Tcp { host, port } => {
+                let host = match host.as_str() {
+                    "0.0.0.0" => "127.0.0.1",
+                    "::" => "::1",
+                    host => host,
+                };
+                Some((host.to_owned(), *port))
+            }
+            Address::Unix(path) => {
+                let (folder, port) = folder_and_port(path)?;
+                Some((folder.to_str()?.to_owned(), port.parse().ok()?))
+            }
+        }
+    }
+}
+
+/// The folder and the port of a Unix socket that has the usual name.
+fn folder_and_port(path: &Path) -> Option<(&Path, &str)> {
+    Some((path.parent()?, path.file_name()?.to_str()?.strip_prefix(SOCKET)?))
 }
 
 /// `HOST:PORT`, `[V6]:PORT`, `PORT` of 127.0.0.1, a folder with a port (`/run/postgresql:5432`), or a socket's path.
@@ -63,10 +87,9 @@ impl fmt::Display for Address {
             Address::Tcp { host, port } => return write!(f, "{host} port {port}"),
             Address::Unix(path) => path,
         };
-        let port = path.file_name().and_then(|it| it.to_str()?.strip_prefix(SOCKET));
-        match (path.parent(), port) {
-            (Some(folder), Some(port)) => write!(f, "{} port {port}", folder.display()),
-            _ => write!(f, "{}", path.display()),
+        match folder_and_port(path) {
+            Some((folder, port)) => write!(f, "{} port {port}", folder.display()),
+            None => write!(f, "{}", path.display()),
         }
     }
 }

@@ -35,6 +35,10 @@ pub enum ExitStatus {
     Different = 11,
     /// Either of two recorded messages may be meant, which were answered otherwise.
     Ambiguous = 12,
+    /// The command can't be run.
+    NotRunnable = 126,
+    /// There is no such command.
+    NoCommand = 127,
     /// Ctrl-C.
     Interrupted = 130,
     /// SIGTERM or SIGHUP.
@@ -96,7 +100,7 @@ impl ShutdownSignals {
 }
 
 /// Whether the process was begun with a signal ignored, as nohup does with SIGHUP.
-fn is_ignored(signal: SignalKind) -> bool {
+pub(crate) fn is_ignored(signal: SignalKind) -> bool {
     let status = fs::read_to_string("/proc/self/status").unwrap_or_default();
     let ignored = status.lines().find_map(|line| line.strip_prefix("SigIgn:"));
     let ignored = ignored.and_then(|it| u64::from_str_radix(it.trim(), 16).ok());

@@ -1,8 +1,11 @@
-//! Addresses, listeners and TLS of either side, for what stands between clients of PostgreSQL and its servers, and how
-//! such a program ends.
+//! Addresses, listeners and TLS of either side, for what stands between clients of PostgreSQL and its servers, the command
+//! that such a program runs, and how the program ends.
 #![forbid(unsafe_code)]
 
 mod address;
+mod client_command;
+mod client_environment;
+mod database_url;
 mod exit;
 mod listener;
 mod opening;
@@ -15,6 +18,8 @@ mod upstream;
 mod workers;
 
 pub use address::Address;
+pub use client_command::ClientCommand;
+pub use client_environment::ClientEnvironment;
 pub use exit::{ignore_file_size, ExitStatus, Failure, ShutdownSignals};
 pub use listener::Listener;
 pub use opening::{open, read_start, ConnectionStart, FirstMessage, OpenError, OpenedClient};
