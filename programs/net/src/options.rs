@@ -55,11 +55,11 @@ impl ListenOptions {
         Ok(named.into_iter().chain(self.listen.iter().cloned()).collect())
     }
 
-    /// Listens, and says where.
+    /// Listens, and tells where.
     pub async fn bind(
         &self,
         port: Option<u16>,
-        mut says: impl FnMut(String),
+        mut tell: impl FnMut(Address),
     ) -> Result<Listeners, Failure> {
         let local = |why| Failure::new(ExitStatus::Local, format!("TLS with clients: {why:#}"));
         let tls = match (&self.cert, &self.key) {
@@ -70,7 +70,7 @@ impl ListenOptions {
         for address in self.addresses(port)? {
             let listener = Listener::bind(&address).await?;
             let address = listener.address().unwrap_or(address);
-            says(format!("listening on {address}"));
+            tell(address);
             listeners.push(listener);
         }
         Ok(Listeners { listeners, tls })

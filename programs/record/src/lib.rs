@@ -12,8 +12,10 @@ mod print;
 mod printer;
 mod proxy;
 mod record_sink;
+mod replaced_file;
 mod serve;
 mod session;
+mod shutdown;
 mod stdout;
 
 #[cfg(test)]
@@ -27,9 +29,9 @@ use net::{ExitStatus, Failure, StderrWriter};
 use options::RecordOptions;
 use std::process;
 
-fn run(options: &RecordOptions, stderr: &StderrWriter) -> Result<ExitStatus, Failure> {
+fn run(options: &RecordOptions, stderr: &StderrWriter) -> Result<u8, Failure> {
     match &options.print {
-        Some(path) => print::print(path, options, stderr),
+        Some(path) => print::print(path, options, stderr).map(|status| status as u8),
         None => serve::serve(options, stderr),
     }
 }
@@ -43,9 +45,9 @@ pub fn main() -> ! {
         if failure.status == ExitStatus::Usage {
             stderr.say_plain(format!("usage: {}", options::USAGE));
         }
-        failure.status
+        failure.status as u8
     });
     stderr.end();
     // Threads that wait for a pipe which nobody reads end here.
-    process::exit(status as i32);
+    process::exit(status.into());
 }

@@ -3,16 +3,23 @@
 use clap::Parser;
 use lines::trace::Style;
 use net::{ExitStatus, ListenOptions, ServerOptions};
+use std::ffi::OsString;
 use std::path::PathBuf;
 use std::process;
 
-pub const USAGE: &str = "pg_record [-h HOST] [-p PORT] [-1] [-o FILE] [OPTION..] [LISTEN_PORT]
+pub const USAGE: &str =
+    "pg_record [-h HOST] [-p PORT] -o FILE [OPTION..] [LISTEN_PORT] -- COMMAND [ARGUMENT..]
+       pg_record [-h HOST] [-p PORT] [-1] [-o FILE] [OPTION..] [LISTEN_PORT]
        pg_record --print FILE [--trace[=whole] | --stream] [--numbers | --only NUMBER]";
 
 const ABOUT: &str = "\
 Passes connections on to the server at HOST and PORT, and records or prints what both sides say. Accepts them on the port \
 LISTEN_PORT of 127.0.0.1, a free one for 0, and at each address of --listen. Prints a line for each message of the server \
-where neither -o nor a kind of line is given.";
+where neither -o nor a kind of line is given.
+
+With COMMAND the program accepts connections, by a free port where none is named, runs the command with PGHOST and PGPORT, and \
+ends when the command does, with its status: 128 and the number of a signal that ended it, 127 where there is no such command, \
+126 where it can't be run. Signals are passed on to the command. FILE gets its name at the end, if a session was recorded.";
 
 const AFTER: &str = "\
 Encryption: without --cert a request for it is answered by a no. With TLS on one side only, or with another certificate \
@@ -26,7 +33,7 @@ passes. Requests to cancel are passed on, and counted at the end.";
 #[command(name = "pg_record", version, about = ABOUT, after_help = AFTER, override_usage = USAGE)]
 #[command(disable_help_flag = true)]
 pub struct RecordOptions {
-    #[arg(value_name = "LISTEN_PORT", required_unless_present_any = ["print", "listen"])]
+    #[arg(value_name = "LISTEN_PORT", required_unless_present_any = ["print", "listen", "command"])]
     pub listen_port: Option<u16>,
     #[command(flatten)]
     pub server: ServerOptions,
@@ -38,6 +45,9 @@ pub struct RecordOptions {
     /// Record both sides to a new file
     #[arg(short = 'o', value_name = "FILE")]
     pub output: Option<PathBuf>,
+    /// Have the recording take the place of FILE at the end, if a session was recorded
+    #[arg(long, requires = "output")]
+    pub replace: bool,
     /// Print messages of both sides as libpq's PQtrace does; bytes of control characters other than line feed and tab are
     /// \x and two hexadecimal digits also in texts. With =whole first messages and the data of a COPY too, of which it
     /// shows little
@@ -65,6 +75,10 @@ pub struct RecordOptions {
     /// Print a recording, as by --stream where not as by --trace
     #[arg(long, value_name = "FILE", conflicts_with_all = ["output", "listen_port", "listen"])]
     pub print: Option<PathBuf>,
+    /// What is run, with its arguments
+    #[arg(last = true, value_name = "COMMAND", requires = "output")]
+    #[arg(conflicts_with_all = ["is_single", "trace", "stream"])]
+    pub command: Vec<OsString>,
     /// Print this
     #[arg(long, action = clap::ArgAction::Help)]
     help: Option<bool>,
@@ -103,6 +117,12 @@ impl RecordOptions {
         })
     }
 
+    /// The port to listen on: a free one for a command where no address is named.
+    pub fn port(&self) -> Option<u16> {
+        let is_free = !self.command.is_empty() && self.listening.listen.is_empty();
+        self.listen_port.or_else(|| is_free.then_some(0))
+    }
+
     /// How messages are printed, where that is asked for.
     pub fn format(&self) -> Option<LineFormat> {
         match self.trace {
@@ -124,6 +144,7 @@ mod tests {
     fn the_forms_of_the_arguments() {
         assert!(parsed(&["-h", "db", "-p", "5433", "-1", "-o", "file", "0"]).is_ok());
         assert!(parsed(&["--listen", "[::1]:5432", "--listen", "/run:5432"]).is_ok());
+        assert!(parsed(&["-o", "file", "--replace", "0"]).is_ok());
         for wrong in [
             &[][..],
             &["1", "2"],
@@ -137,8 +158,27 @@ mod tests {
             &["--cert", "own.crt", "0"],
             &["--encryption", "--sslmode", "require", "0"],
             &["--sslmode", "always", "0"],
+            &["--replace", "0"],
+            &["--", "psql"],
+            &["-o", "file", "psql"],
+            &["-o", "file", "-1", "--", "psql"],
+            &["-o", "file", "--trace", "--", "psql"],
+            &["-o", "file", "--"],
         ] {
             assert!(parsed(wrong).is_err(), "{wrong:?}");
+        }
+    }
+
+    #[test]
+    fn a_command_has_a_free_port_where_none_is_named() {
+        for (words, port) in [
+            (&["-o", "file", "--", "psql", "-c", "SELECT 1"][..], Some(0)),
+            (&["-o", "file", "5433", "--", "psql", "-c", "SELECT 1"], Some(5433)),
+            (&["-o", "file", "--listen", "5433", "--", "psql", "-c", "SELECT 1"], None),
+        ] {
+            let options = parsed(words).unwrap();
+            assert_eq!(options.port(), port, "{words:?}");
+            assert_eq!(options.command, ["psql", "-c", "SELECT 1"], "{words:?}");
         }
     }
 

@@ -2,18 +2,20 @@
 
 use crate::record_sink::RecordSink;
 use crate::session::{ProxySession, OPENING};
-use net::{ExitStatus, Listener, ServerTls, StderrWriter, Upstream, Workers};
+use net::{ClientCommand, ExitStatus, Listener, ServerTls, StderrWriter, Upstream, Workers};
 use std::io;
 use std::sync::atomic::{AtomicU64, Ordering};
 use std::sync::Arc;
 use std::time::Duration;
 use tokio::sync::{mpsc, Notify, OwnedSemaphorePermit, Semaphore};
-use tokio::time::{sleep, sleep_until, timeout_at, Instant};
+use tokio::time::{sleep, sleep_until, timeout, timeout_at, Instant};
 
 /// How long a client's first message may take while others wait for its place.
 const CROWDED: Duration = Duration::from_secs(2);
 /// How long no client is accepted where that can't be done.
 const PAUSE: Duration = Duration::from_millis(50);
+/// How long sessions may go on after the command: their last messages may not have passed yet.
+const LAST: Duration = Duration::from_secs(2);
 
 pub struct Proxy {
     pub upstream: Upstream,
@@ -25,8 +27,12 @@ pub struct Proxy {
     /// All ends with the first session, whose status is told here.
     pub single: Option<mpsc::UnboundedSender<ExitStatus>>,
     pub permits: Arc<Semaphore>,
+    /// How many permits there are.
+    pub most: usize,
     /// Calls sessions when clients wait for a place.
     pub is_crowded: Notify,
+    /// How many sessions were passed on.
+    pub sessions: AtomicU64,
     pub cancels: AtomicU64,
 }
 
@@ -48,6 +54,13 @@ impl Proxy {
 
     pub fn count_cancel(&self) {
         self.cancels.fetch_add(1, Ordering::Relaxed);
+    }
+
+    /// Waits until a command has ended, and for a while until no session goes on. Gives the command's status.
+    pub async fn outlast(self: Arc<Proxy>, command: ClientCommand) -> u8 {
+        let status = command.wait().await;
+        let _ = timeout(LAST, self.permits.acquire_many(self.most as u32)).await;
+        status
     }
 
     /// Notes how the session of a number ended.

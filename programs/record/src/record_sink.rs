@@ -64,9 +64,9 @@ impl RecordingOutput {
         }
     }
 
-    /// The same with a new file.
-    pub fn create(path: &Path, goes_on: bool) -> Result<RecordingOutput, Failure> {
-        let recorder = recording::Recorder::create(path).map_err(|why| {
+    /// The same with a new file, which may be another one than words name.
+    pub fn create(file: &Path, path: &Path, goes_on: bool) -> Result<RecordingOutput, Failure> {
+        let recorder = recording::Recorder::create(file).map_err(|why| {
             Failure::new(ExitStatus::Unrecorded, format!("{} {why}", path.display()))
         })?;
         Ok(RecordingOutput::new(recorder, path, goes_on))

@@ -1,25 +1,23 @@
-//! The passing on of many connections, until a signal comes or nothing may pass any more.
+//! The passing on of many connections, until a signal comes, a command ends, or nothing may pass any more.
 
 use crate::options::{LineFormat, RecordOptions};
 use crate::printer::Printer;
 use crate::proxy::Proxy;
 use crate::record_sink::{RecordSink, RecordingOutput};
+use crate::replaced_file::ReplacedFile;
+use crate::shutdown::{end, ShutdownEvents};
 use crate::stdout::StdoutWriter;
 use net::{
-    ignore_file_size, most_sessions, ExitStatus, Failure, Listeners, ServerTls, ShutdownSignals,
-    StderrWriter, Upstream,
+    ignore_file_size, most_sessions, ClientCommand, ClientEnvironment, ExitStatus, Failure,
+    Listeners, ServerTls, ShutdownSignals, StderrWriter, Upstream,
 };
 use std::io;
-use std::sync::atomic::{AtomicU64, Ordering};
+use std::sync::atomic::AtomicU64;
 use std::sync::Arc;
-use std::time::Duration;
-use tokio::runtime::Builder;
+use tokio::runtime::{Builder, Runtime};
 use tokio::sync::{mpsc, Notify, Semaphore};
-use tokio::task::{spawn_blocking, JoinHandle};
-use tokio::time::timeout;
+use tokio::task::JoinHandle;
 
-/// How long a listener or the file may take to be closed.
-const PATIENCE: Duration = Duration::from_secs(1);
 /// The descriptors of a session.
 const DESCRIPTORS: u64 = 2;
 
@@ -28,18 +26,19 @@ fn local(why: io::Error) -> Failure {
 }
 
 /// Serves, and gives the status in which that ends.
-pub fn serve(options: &RecordOptions, stderr: &StderrWriter) -> Result<ExitStatus, Failure> {
+pub fn serve(options: &RecordOptions, stderr: &StderrWriter) -> Result<u8, Failure> {
     // Signals, the end and those who connect have a thread of their own, so that a write which blocks all others doesn't hold
     // them up.
     let own = Builder::new_current_thread().enable_all().build().map_err(local)?;
     let _file_size = own.block_on(async { ignore_file_size() }).map_err(local)?;
-    let signals = own.block_on(async { ShutdownSignals::take() }).map_err(local)?;
-    let signal = own.spawn(signals.wait());
+    let signal = take_signals(options, &own)?;
     let workers = Arc::new(options.listening.workers().map_err(local)?);
     let (on_failure, failures) = mpsc::unbounded_channel();
-    let sink = sink_of(options, stderr, on_failure)?;
-    let served = match own.block_on(begin(options, stderr)) {
-        Ok((upstream, bound)) => {
+    let replaced = ReplacedFile::of(options)?;
+    let sink = sink_of(options, replaced.as_ref(), stderr, on_failure)?;
+    let has_command = signal.is_none();
+    let served = match own.block_on(begin(options, stderr, signal)) {
+        Ok(ProxyStart { upstream, bound, until }) => {
             let (single, first) = mpsc::unbounded_channel();
             let single = options.is_single.then_some(single);
             let Listeners { listeners, tls } = bound;
@@ -47,8 +46,12 @@ pub fn serve(options: &RecordOptions, stderr: &StderrWriter) -> Result<ExitStatu
             let proxy = proxy_of(options, stderr, sink, upstream, tls, threads, single);
             let accepting = |listener| own.spawn(proxy.clone().accept(listener, workers.clone()));
             let accepting = listeners.into_iter().map(accepting).collect();
-            let events = ShutdownEvents { failures, signal, first };
-            own.block_on(end(&proxy, accepting, events))
+            let over = match until {
+                RecordUntil::Signal(signal) => signal,
+                RecordUntil::Command(command) => own.spawn(proxy.clone().outlast(command)),
+            };
+            let events = ShutdownEvents { failures, over, has_command, first };
+            own.block_on(end(&proxy, accepting, events, replaced))
         }
         Err(failure) => {
             sink.close(true);
@@ -60,13 +63,26 @@ pub fn serve(options: &RecordOptions, stderr: &StderrWriter) -> Result<ExitStatu
     served
 }
 
+/// Waits for a signal that ends the program, unless that is for a command: it gets them.
+fn take_signals(options: &RecordOptions, own: &Runtime) -> Result<Option<JoinHandle<u8>>, Failure> {
+    if !options.command.is_empty() {
+        return Ok(None);
+    }
+    let signals = own.block_on(async { ShutdownSignals::take() }).map_err(local)?;
+    Ok(Some(own.spawn(async { signals.wait().await as u8 })))
+}
+
 /// Where what passes goes. Nothing asked for is lines of the server's messages.
 fn sink_of(
     options: &RecordOptions,
+    replaced: Option<&ReplacedFile>,
     stderr: &StderrWriter,
     on_failure: mpsc::UnboundedSender<Failure>,
 ) -> Result<RecordSink, Failure> {
-    let create = |path| RecordingOutput::create(path, options.keep_passing);
+    let create = |path| {
+        let own = replaced.map_or(path, ReplacedFile::path);
+        RecordingOutput::create(own, path, options.keep_passing)
+    };
     let file = options.output.as_deref().map(create).transpose()?;
     let format = options.format().or_else(|| Some(LineFormat::Server).filter(|_| file.is_none()));
     let told = on_failure.clone();
@@ -79,18 +95,43 @@ fn sink_of(
     Ok(RecordSink::new(file, lines, stderr.clone(), on_failure))
 }
 
-/// Finds the server, and listens.
+/// What passes messages on, once it can.
+struct ProxyStart {
+    upstream: Upstream,
+    bound: Listeners,
+    until: RecordUntil,
+}
+
+/// What ends the program from outside: the status is that of the signal, or of the command.
+enum RecordUntil {
+    Signal(JoinHandle<u8>),
+    Command(ClientCommand),
+}
+
+/// Finds the server, and listens: says where, or runs the command.
 async fn begin(
     options: &RecordOptions,
     stderr: &StderrWriter,
-) -> Result<(Upstream, Listeners), Failure> {
+    signal: Option<JoinHandle<u8>>,
+) -> Result<ProxyStart, Failure> {
     let upstream = match options.encryption {
         true => options.server.find_unread().await?,
         false => options.server.find().await?,
     };
-    let tell = |line| stderr.say_plain(line);
-    let bound = options.listening.bind(options.listen_port, tell).await?;
-    Ok((upstream, bound))
+    let mut addresses = Vec::new();
+    let bound = options.listening.bind(options.port(), |it| addresses.push(it)).await?;
+    let until = match signal {
+        Some(signal) => {
+            addresses.iter().for_each(|it| stderr.say_plain(format_args!("listening on {it}")));
+            RecordUntil::Signal(signal)
+        }
+        None => {
+            let is_encrypted = options.encryption || bound.tls.is_some();
+            let environment = ClientEnvironment::new(&addresses[0], is_encrypted, true)?;
+            RecordUntil::Command(ClientCommand::start(&options.command, &environment)?)
+        }
+    };
+    Ok(ProxyStart { upstream, bound, until })
 }
 
 fn proxy_of(
@@ -103,6 +144,7 @@ fn proxy_of(
     single: Option<mpsc::UnboundedSender<ExitStatus>>,
 ) -> Arc<Proxy> {
     let prints_server = options.format().is_none() && options.output.is_none();
+    let most = most_sessions(DESCRIPTORS, threads);
     Arc::new(Proxy {
         upstream,
         sink,
@@ -111,55 +153,10 @@ fn proxy_of(
         leaves_out: !options.passwords && !prints_server,
         stderr: stderr.clone(),
         single,
-        permits: Arc::new(Semaphore::new(most_sessions(DESCRIPTORS, threads))),
+        permits: Arc::new(Semaphore::new(most)),
+        most,
         is_crowded: Notify::new(),
+        sessions: AtomicU64::new(0),
         cancels: AtomicU64::new(0),
     })
-}
-
-/// What ends the program.
-struct ShutdownEvents {
-    failures: mpsc::UnboundedReceiver<Failure>,
-    signal: JoinHandle<ExitStatus>,
-    /// The status of the first session, where all ends with it.
-    first: mpsc::UnboundedReceiver<ExitStatus>,
-}
-
-/// Waits for an end, and gives its status. All that has passed is in the file, so little is left to be done.
-async fn end(
-    proxy: &Arc<Proxy>,
-    accepting: Vec<JoinHandle<()>>,
-    mut events: ShutdownEvents,
-) -> Result<ExitStatus, Failure> {
-    let (ended, is_told) = tokio::select! {
-        biased;
-        Some(failure) = events.failures.recv() => (Err(failure), false),
-        status = &mut events.signal => (Ok(status.unwrap_or(ExitStatus::Local)), true),
-        Some(status) = events.first.recv() => (Ok(status), false),
-    };
-    for each in accepting {
-        each.abort();
-        // A listener is closed with its task, unless all threads wait for a file.
-        let _ = timeout(PATIENCE, each).await;
-    }
-    let (closed, is_unreachable) = (proxy.clone(), matches!(ended, Ok(ExitStatus::Unreachable)));
-    let closing = spawn_blocking(move || closed.sink.close(is_unreachable));
-    if timeout(PATIENCE, closing).await.is_err() {
-        // Who writes to a pipe that nobody reads may keep others from their lines, too.
-        return ended;
-    }
-    let lost = tokio::select! {
-        lost = proxy.sink.end(is_told) => lost,
-        _ = events.signal, if !is_told => proxy.sink.end(true).await,
-    };
-    say_cancels(proxy);
-    ended.map(|status| lost.unwrap_or(status))
-}
-
-fn say_cancels(proxy: &Proxy) {
-    match proxy.cancels.load(Ordering::Relaxed) {
-        0 => {}
-        1 => proxy.stderr.say("1 request to cancel was passed on"),
-        count => proxy.stderr.say(format_args!("{count} requests to cancel were passed on")),
-    }
 }

@@ -6,6 +6,7 @@ use crate::proxy::Proxy;
 use crate::record_sink::Stopped;
 use net::{ExitStatus, FirstMessage, OpenError, OpenedClient, Stream};
 use recording::Side;
+use std::sync::atomic::Ordering;
 use std::time::Duration;
 use tokio::time::{timeout_at, Instant};
 
@@ -63,6 +64,7 @@ impl<'p> ProxySession<'p> {
     pub async fn serve(mut self, client: Stream) {
         let (status, first_end) = match self.link(client).await {
             Ok(link) => {
+                self.proxy.sessions.fetch_add(1, Ordering::Relaxed);
                 match pass(&self.proxy.sink, self.number, self.proxy.leaves_out, link).await {
                     Ok(()) => (ExitStatus::Ok, None),
                     Err(Stopped) => return,

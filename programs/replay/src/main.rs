@@ -14,20 +14,27 @@ mod session;
 #[cfg(test)]
 mod mutants;
 
-use net::{ExitStatus, Failure, Listener, Listeners, ShutdownSignals, StderrWriter, Workers};
+use net::{
+    Address, ClientCommand, ClientEnvironment, ExitStatus, Failure, Listener, Listeners,
+    ShutdownSignals, StderrWriter, Workers,
+};
 use options::ReplayOptions;
 use renewal::Renewal;
 use serve::{ReplayConfig, Shared};
 use session::ScramSecret;
+use std::future::Future;
 use std::path::Path;
 use std::process::ExitCode;
 use std::sync::Arc;
 use std::time::Duration;
 use tokio::runtime::Builder;
 use tokio::sync::mpsc;
+use tokio::time::timeout;
 
 /// How long tasks may take to end.
 const SHUTTING_DOWN: Duration = Duration::from_secs(1);
+/// How long sessions may go on after the command: what its clients said last may not be compared yet.
+const LAST: Duration = Duration::from_secs(2);
 
 /// What tells that all ends, and how.
 type ShutdownReceiver = mpsc::Receiver<Result<(), Failure>>;
@@ -48,7 +55,31 @@ struct ReplayServer {
     shared: Shared,
     listeners: Vec<Listener>,
     ends: ShutdownReceiver,
-    signals: ShutdownSignals,
+    until: ReplayUntil,
+}
+
+/// What ends the program from outside.
+enum ReplayUntil {
+    Signal(ShutdownSignals),
+    Command(ClientCommand),
+}
+
+/// Runs the command, or says where clients can connect. Signals are taken before, so that one which comes then finds the program
+/// ready.
+fn start_until(
+    options: &ReplayOptions,
+    stderr: &StderrWriter,
+    addresses: &[Address],
+    has_tls: bool,
+) -> Result<ReplayUntil, Failure> {
+    if options.has_command() {
+        let environment = ClientEnvironment::new(&addresses[0], has_tls, options.scram.is_some())?;
+        return ClientCommand::start(&options.command, &environment).map(ReplayUntil::Command);
+    }
+    let signals =
+        ShutdownSignals::take().map_err(|why| Failure::new(ExitStatus::Local, why.to_string()))?;
+    addresses.iter().for_each(|it| stderr.say_plain(format_args!("listening on {it}")));
+    Ok(ReplayUntil::Signal(signals))
 }
 
 /// Listens, and reads the recording: clients that come meanwhile wait. A recording that is to be made is begun.
@@ -56,7 +87,7 @@ async fn begin(options: &ReplayOptions, stderr: &StderrWriter) -> Result<ReplayS
     let rules = Arc::new(options.rules()?);
     options.check_paths()?;
     let mut addresses = Vec::new();
-    let bound = options.listening.bind(options.listen_port, |it| addresses.push(it)).await?;
+    let bound = options.listening.bind(options.port(), |it| addresses.push(it)).await?;
     let (end, ends) = mpsc::channel(1);
     let fails = end.clone();
     let fails = move |failure| drop(fails.try_send(Err(failure)));
@@ -70,43 +101,74 @@ async fn begin(options: &ReplayOptions, stderr: &StderrWriter) -> Result<ReplayS
     let config = ReplayConfig {
         keeps_times: options.speed,
         patience: options.patience(),
-        again: options.again,
-        any_order: options.any_order,
-        goes_on: options.go_on,
-        is_strict: options.strict,
+        again: options.again(),
+        any_order: options.any_order(),
+        goes_on: options.goes_on(),
+        is_strict: options.is_strict(),
+        has_command: options.has_command(),
         login: options.scram.as_deref().map(login).transpose()?,
         renewal,
         end,
     };
-    // Signals are taken before it is said that the program listens, so that one which comes then finds it ready.
-    let signals =
-        ShutdownSignals::take().map_err(|why| Failure::new(ExitStatus::Local, why.to_string()))?;
-    addresses.into_iter().for_each(|it| stderr.say_plain(it));
     let Listeners { listeners, tls } = bound;
+    let until = start_until(options, stderr, &addresses, tls.is_some())?;
     Ok(ReplayServer {
         shared: Shared::new(recording, rules, stderr.clone(), tls, config),
         listeners,
         ends,
-        signals,
+        until,
     })
 }
 
-/// Serves until it is over, or a signal comes. Answers the status, and what all sessions have.
+/// Serves until it is over, a signal comes, or the command ends. Answers the status, and what all sessions have.
 async fn run(
     options: &ReplayOptions,
     stderr: &StderrWriter,
     workers: &Arc<Workers>,
-) -> Result<(ExitStatus, Arc<Shared>), Failure> {
-    let ReplayServer { shared, listeners, ends, signals } = begin(options, stderr).await?;
+) -> Result<(u8, Arc<Shared>), Failure> {
+    let ReplayServer { shared, listeners, ends, until } = begin(options, stderr).await?;
     let shared = Arc::new(shared);
-    let status = tokio::select! {
-        end = serve::serve(shared.clone(), listeners, workers, ends) => serve::ended(&shared, end),
-        status = signals.wait() => match serve::ended(&shared, Ok(())) {
-            found @ (ExitStatus::Different | ExitStatus::Ambiguous) if options.strict => found,
-            _ => status,
+    let permits = serve::permits(workers);
+    // Each listener has a place for the client that comes next.
+    let most = permits.available_permits().saturating_sub(listeners.len()) as u32;
+    let serving = serve::serve(shared.clone(), listeners, workers, &permits, ends);
+    let status = match until {
+        ReplayUntil::Command(command) => {
+            let over = async {
+                let status = command.wait().await;
+                let _ = timeout(LAST, permits.acquire_many(most)).await;
+                status
+            };
+            until_command(&shared, serving, over).await
+        }
+        ReplayUntil::Signal(signals) => tokio::select! {
+            end = serving => serve::ended(&shared, end) as u8,
+            status = signals.wait() => {
+                let found = serve::ended(&shared, Ok(()));
+                let counts = options.is_strict() && found != ExitStatus::Ok;
+                if counts { found as u8 } else { status as u8 }
+            }
         },
     };
     Ok((status, shared))
+}
+
+/// Serves until a command is over, and answers its status where nothing differed.
+async fn until_command(
+    shared: &Shared,
+    serving: impl Future<Output = Result<(), Failure>>,
+    command: impl Future<Output = u8>,
+) -> u8 {
+    tokio::pin!(serving, command);
+    let (ended, status) = tokio::select! {
+        status = &mut command => (Ok(()), status),
+        // The command goes on alone, but not longer than this process.
+        end = &mut serving => (end, command.await),
+    };
+    match serve::ended(shared, ended) {
+        ExitStatus::Ok => status,
+        found => found as u8,
+    }
 }
 
 /// Puts what was recorded into the recording, once no session goes on.
@@ -121,7 +183,7 @@ fn renew(shared: &Shared, options: &ReplayOptions, stderr: &StderrWriter) -> Res
 }
 
 /// The same with the threads that serve clients; another one accepts them.
-fn serve_all(options: &ReplayOptions, stderr: &StderrWriter) -> Result<ExitStatus, Failure> {
+fn serve_all(options: &ReplayOptions, stderr: &StderrWriter) -> Result<u8, Failure> {
     let local = |why| Failure::new(ExitStatus::Local, format!("no thread can be begun: {why}"));
     let workers = Arc::new(options.listening.workers().map_err(local)?);
     let runtime = Builder::new_current_thread().enable_all().build().map_err(local)?;
@@ -154,8 +216,8 @@ fn main() -> ExitCode {
         if failure.status == ExitStatus::Usage {
             stderr.say_plain(options::USAGE);
         }
-        failure.status
+        failure.status as u8
     });
     stderr.end();
-    ExitCode::from(status as u8)
+    ExitCode::from(status)
 }

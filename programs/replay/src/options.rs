@@ -4,14 +4,17 @@ use crate::fingerprint::LiteralKind;
 use crate::rules::ReplayRules;
 use clap::Parser;
 use net::{Address, ExitStatus, Failure, ListenOptions, ServerOptions};
+use std::ffi::OsString;
 use std::path::PathBuf;
 use std::time::Duration;
 
 /// The longest path of a Unix socket.
 const PATH_MOST: usize = 107;
 
-const FORM: &str = "pg_replay [OPTION..] FILE [LISTEN_PORT]";
-pub const USAGE: &str = "usage: pg_replay [OPTION..] FILE [LISTEN_PORT]";
+const FORM: &str = "pg_replay [OPTION..] FILE [LISTEN_PORT] -- COMMAND [ARGUMENT..]
+       pg_replay [OPTION..] FILE LISTEN_PORT";
+pub const USAGE: &str = "usage: pg_replay [OPTION..] FILE [LISTEN_PORT] -- COMMAND [ARGUMENT..]
+       pg_replay [OPTION..] FILE LISTEN_PORT";
 
 /// Serves the recording FILE of pg_record: answers each client as the server did, and compares what it says with what was
 /// recorded.
@@ -21,6 +24,12 @@ pub const USAGE: &str = "usage: pg_replay [OPTION..] FILE [LISTEN_PORT]";
 /// statements, portals, cursors and savepoints may differ, and settings may come in any order. No password is asked for
 /// where none is named. Ends when all connections are replayed, or at a difference, with status 11, after both messages
 /// are printed, and the rule that would let them differ.
+///
+/// With COMMAND the program serves on a free port where none is named, runs the command with PGHOST and PGPORT, and ends when
+/// the command does: with status 11 or 12 where a client has differed or was refused, else with the command's, which is 128
+/// and the number of a signal that ended it, 127 where there is no such command, 126 where it can't be run. Signals are passed
+/// on to the command. --any-order, --again, --go-on and --strict are in force then, each unless it is given with `=false`;
+/// with --record-missing or --record-all, --strict isn't.
 ///
 /// Messages up to a mebibyte are compared so; longer ones have to be as recorded.
 #[derive(Parser, Debug)]
@@ -49,8 +58,9 @@ pub struct ReplayOptions {
     #[arg(long, value_name = "KIND", value_enum)]
     any_literal: Vec<LiteralKind>,
     /// With --again: a connection is served again as soon as its client is gone, for which another one waits some seconds
-    #[arg(long)]
-    pub any_order: bool,
+    #[arg(long, value_name = "BOOL", num_args = 0..=1, require_equals = true, default_missing_value = "true")]
+    #[arg(hide_possible_values = true, overrides_with = "any_order")]
+    any_order: Option<bool>,
     /// Answers as long after a message as the server did, and not at once
     #[arg(long)]
     pub speed: bool,
@@ -59,18 +69,19 @@ pub struct ReplayOptions {
     patience: Option<u32>,
     /// Serves on after a difference. Within a transaction that was rolled back its client goes on too: what it says is refused, as
     /// by a server once a statement has failed, until it rolls back as recorded
-    #[arg(long)]
-    pub go_on: bool,
+    #[arg(long, value_name = "BOOL", num_args = 0..=1, require_equals = true, default_missing_value = "true")]
+    #[arg(hide_possible_values = true, overrides_with = "go_on")]
+    go_on: Option<bool>,
     /// Refuses a request that fits two recorded ones with different answers, where nothing tells which one the client means,
     /// and ends with status 12; without it, a line says so. A signal ends the program with status 11 or 12 then, too, where
     /// a client has differed or was refused. `--strict=false` after it takes it back
-    #[arg(long, value_name = "BOOL", num_args = 0..=1, require_equals = true, default_value_t = false,
-          default_missing_value = "true", action = clap::ArgAction::Set, overrides_with = "strict", hide_possible_values = true,
-          hide_default_value = true)]
-    pub strict: bool,
+    #[arg(long, value_name = "BOOL", num_args = 0..=1, require_equals = true, default_missing_value = "true")]
+    #[arg(hide_possible_values = true, overrides_with = "strict")]
+    strict: Option<bool>,
     /// Serves the recording again when all of it is replayed
-    #[arg(long)]
-    pub again: bool,
+    #[arg(long, value_name = "BOOL", num_args = 0..=1, require_equals = true, default_missing_value = "true")]
+    #[arg(hide_possible_values = true, overrides_with = "again")]
+    again: Option<bool>,
     /// Passes on to the server at HOST and PORT what isn't recorded, and records it. A session that goes on otherwise than the
     /// recorded one goes on with the server, which hears first what the client said before; it takes the place of that one.
     /// FILE, which may be missing, has the new sessions when a signal ends the program. Where there is no server a difference
@@ -82,6 +93,9 @@ pub struct ReplayOptions {
     record_all: bool,
     #[command(flatten)]
     pub server: ServerOptions,
+    /// What is run, with its arguments
+    #[arg(last = true, value_name = "COMMAND")]
+    pub command: Vec<OsString>,
     /// Print this
     #[arg(long, action = clap::ArgAction::Help)]
     help: Option<bool>,
@@ -116,8 +130,8 @@ impl ReplayOptions {
 
     /// What the arguments lack for a replay.
     fn lack(&self) -> Option<&'static str> {
-        if self.listen_port.is_none() && self.listening.listen.is_empty() {
-            return Some("where to listen is missing: LISTEN_PORT, or --listen ADDRESS");
+        if self.port().is_none() && self.listening.listen.is_empty() {
+            return Some("where to listen is missing: LISTEN_PORT, --listen ADDRESS, or a command after `--`");
         }
         let has_use = self.recorded() != RecordMode::Nothing || !self.server.is_given();
         (!has_use).then_some("a server has a use with --record-missing or --record-all alone")
@@ -130,6 +144,34 @@ impl ReplayOptions {
             (true, _) => RecordMode::Missing,
             _ => RecordMode::All,
         }
+    }
+
+    /// Whether a command is run.
+    pub fn has_command(&self) -> bool {
+        !self.command.is_empty()
+    }
+
+    /// The port to listen on: a free one for a command where no address is named.
+    pub fn port(&self) -> Option<u16> {
+        let is_free = self.has_command() && self.listening.listen.is_empty();
+        self.listen_port.or_else(|| is_free.then_some(0))
+    }
+
+    pub fn any_order(&self) -> bool {
+        self.any_order.unwrap_or(self.has_command())
+    }
+
+    pub fn again(&self) -> bool {
+        self.again.unwrap_or(self.has_command())
+    }
+
+    pub fn goes_on(&self) -> bool {
+        self.go_on.unwrap_or(self.has_command())
+    }
+
+    /// What isn't recorded yet is to be recorded before an order of clients is asked for.
+    pub fn is_strict(&self) -> bool {
+        self.strict.unwrap_or(self.has_command() && self.recorded() == RecordMode::Nothing)
     }
 
     pub fn patience(&self) -> Option<Duration> {
@@ -162,5 +204,46 @@ impl ReplayOptions {
         };
         rules.allow(&self.any_setting, &self.any_parameter, &self.any_literal);
         Ok(rules)
+    }
+}
+
+#[cfg(test)]
+mod tests {
+    use super::*;
+
+    fn parsed(words: &[&str]) -> ReplayOptions {
+        ReplayOptions::try_parse_from(["pg_replay", "file"].iter().chain(words)).unwrap()
+    }
+
+    #[test]
+    fn a_command_has_what_a_test_suite_needs_unless_it_is_taken_back() {
+        for (words, any_order, again, goes_on, is_strict) in [
+            (&["0"][..], false, false, false, false),
+            (&["--any-order", "--again", "--go-on", "--strict", "0"], true, true, true, true),
+            (&["--", "psql"], true, true, true, true),
+            (&["--again=false", "--strict=false", "--", "psql"], true, false, true, false),
+            (&["--any-order=false", "--go-on=false", "--", "psql"], false, true, false, true),
+            (&["--record-missing", "--", "psql"], true, true, true, false),
+            (&["--record-missing", "--strict", "--", "psql"], true, true, true, true),
+            (&["--strict", "--strict=false", "0"], false, false, false, false),
+        ] {
+            let it = parsed(words);
+            let found = (it.any_order(), it.again(), it.goes_on(), it.is_strict());
+            assert_eq!(found, (any_order, again, goes_on, is_strict), "{words:?}");
+        }
+    }
+
+    #[test]
+    fn a_port_is_named_or_a_free_one_for_a_command() {
+        for (words, port, lacks) in [
+            (&[][..], None, true),
+            (&["5433"], Some(5433), false),
+            (&["--", "psql", "-p", "1"], Some(0), false),
+            (&["5433", "--", "psql"], Some(5433), false),
+            (&["--listen", "5433", "--", "psql"], None, false),
+        ] {
+            let it = parsed(words);
+            assert_eq!((it.port(), it.lack().is_some()), (port, lacks), "{words:?}");
+        }
     }
 }

@@ -45,6 +45,8 @@ pub struct Shared {
     /// A client that may mean either of two recorded messages ends by that.
     pub is_strict: bool,
     is_ambiguous: AtomicBool,
+    /// All goes on until a command ends, whatever clients do.
+    has_command: bool,
     /// Clients whose Startup hasn't come, the oldest first.
     openings: Mutex<VecDeque<PendingClient>>,
     end: mpsc::Sender<Result<(), Failure>>,
@@ -61,6 +63,7 @@ pub struct ReplayConfig {
     pub any_order: bool,
     pub goes_on: bool,
     pub is_strict: bool,
+    pub has_command: bool,
     pub login: Option<ScramSecret>,
     pub renewal: Option<Renewal>,
     /// What tells that all ends, and how.
@@ -95,6 +98,7 @@ impl Shared {
             is_different: AtomicBool::new(false),
             is_strict: config.is_strict,
             is_ambiguous: AtomicBool::new(false),
+            has_command: config.has_command,
             openings: Mutex::new(VecDeque::new()),
             end: config.end,
         }
@@ -166,6 +170,7 @@ impl Shared {
         let is_cut = !is_replayed && !self.goes_on;
         match ended.map_err(|why| why.downcast::<Failure>()) {
             Err(Ok(failure)) => drop(self.end.try_send(Err(failure))),
+            _ if self.has_command => {}
             _ if is_cut || is_done => drop(self.end.try_send(Ok(()))),
             _ => {}
         }
@@ -178,20 +183,25 @@ impl Shared {
         let slot = connection.filter(|it| self.pool().take_failed(*it));
         if let Some(slot) = slot {
             self.leave(slot, Ok(false));
-        } else if !self.goes_on {
+        } else if !self.goes_on && !self.has_command {
             let _ = self.end.try_send(Ok(()));
         }
     }
 }
 
-/// Serves until all is replayed, a client differs, or something fails.
+/// A place for each session that there can be at a time.
+pub fn permits(workers: &Workers) -> Arc<Semaphore> {
+    Arc::new(Semaphore::new(most_sessions(DESCRIPTORS, workers.count())))
+}
+
+/// Serves until all is replayed, a client differs, or something fails; where there is a command, until something fails.
 pub async fn serve(
     shared: Arc<Shared>,
     listeners: Vec<Listener>,
     workers: &Arc<Workers>,
+    permits: &Arc<Semaphore>,
     mut ends: mpsc::Receiver<Result<(), Failure>>,
 ) -> Result<(), Failure> {
-    let permits = Arc::new(Semaphore::new(most_sessions(DESCRIPTORS, workers.count())));
     for listener in listeners {
         let (shared, permits, workers) = (shared.clone(), permits.clone(), workers.clone());
         tokio::spawn(async move {
