@@ -16,7 +16,7 @@ PASSED = pathlib.Path(os.environ.get("XDG_CACHE_HOME") or pathlib.Path.home() / 
 # The functions of each source have their turn at one of so many commits that change a crate, with the next of their mutants, and
 # constants and wrong bodies by hand at one of so many. What has its turn stands together in the tree: each check has some
 # seconds of its own, so a few of many wrong bodies cost less than many of a few.
-TURNS, TURNS_BY_HAND = 12, 24
+TURNS, TURNS_BY_HAND = 24, 48
 
 
 class Due:
