@@ -160,8 +160,8 @@ mod tests {
 
     #[test]
     fn derives_without_bounds() {
-        let impls = "impl<'a, T> Clone for A<'a, T> {\n    #[inline(always)]\n    fn clone(&self) -> Self {\n        *self\n    }\n}\n\n\
-                     impl<'a, T> Copy for A<'a, T> {}\n";
+        let impls = "impl<'a, T> Clone for A<'a, T> {\n    #[inline(always)]\n    fn clone(&self) -> Self {\n        \
+                     *self\n    }\n}\n\nimpl<'a, T> Copy for A<'a, T> {}\n";
         assert_eq!(
             erased("/// A.\n#[derive_where(Clone, Copy)]\nstruct A<'a, T>(&'a T);\n"),
             format!("/// A.\nstruct A<'a, T>(&'a T);\n\n{impls}")

@@ -54,8 +54,11 @@ mod tests {
     #[test]
     fn links() {
         let names = Names::new().own("crate::a").other("b", "crate::b");
-        let erased = |source| erase(source, &names).unwrap();
-        assert_eq!(erased("/// [`X`](crate::m::X), [y](b::y), [z](w)\n///\n/// [v]: b::v\nstruct A;\n"), "/// [`X`](crate::a::m::X), [y](crate::b::y), [z](w)\n///\n/// [v]: crate::b::v\nstruct A;\n");
+        let erased = |source: &str| erase(source, &names).unwrap();
+        let docs = |first, second| {
+            format!("/// [`X`]({first}::m::X), [z](w)\n///\n/// [v]: {second}::v\nstruct A;\n")
+        };
+        assert_eq!(erased(&docs("crate", "b")), docs("crate::a", "crate::b"));
         assert_eq!(
             erased("use b::MAX;\n\n/// At most [`MAX`].\nfn f(x: u8)\n    requires { x ≤ MAX }\n{\n    x;\n}\n"),
             "/// At most [`MAX`](crate::b::MAX).\nfn f(x: u8) {\n    x;\n}\n"

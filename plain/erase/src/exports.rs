@@ -96,10 +96,10 @@ mod tests {
     #[test]
     fn slices() {
         assert_eq!(
-            erased("pub extern \"C\" fn f(x: &[u8], n: u32, out: &mut [A<'_>]) -> i32 {\n    0\n}\n"),
+            erased("pub extern \"C\" fn f(x: &[u8], n: u32, y: &mut [A<'_>]) {\n    0\n}\n"),
             format!(
-                "pub unsafe extern \"C\" fn f(x: *const u8, x_len: usize, n: u32, out: *mut A<'_>, out_len: usize) -> i32 {{\n{SAFETY}    \
-                 let (x, out) = unsafe {{ (rattle::ffi::slice(x, x_len), rattle::ffi::slice_mut(out, out_len)) }};\n    0\n}}\n"
+                "pub unsafe extern \"C\" fn f(x: *const u8, x_len: usize, n: u32, y: *mut A<'_>, y_len: usize) {{\n{SAFETY}    \
+                 let (x, y) = unsafe {{ (rattle::ffi::slice(x, x_len), rattle::ffi::slice_mut(y, y_len)) }};\n    0\n}}\n"
             )
         );
         assert_eq!(

@@ -255,7 +255,10 @@ mod tests {
     #[test]
     fn what_public_functions_require() {
         assert_eq!(
-            erased("/// F.\n#[inline]\npub fn f(x: u8)\n    requires small { x ≤\n        1 }\n    requires { A }\n{\n    x;\n}\n"),
+            erased(
+                "/// F.\n#[inline]\npub fn f(x: u8)\n    requires small { x ≤\n        1 }\n    \
+                 requires { A }\n{\n    x;\n}\n"
+            ),
             "/// F.\n///\n/// # Requires\n///\n/// - `x ≤ 1`\n/// - `A`\n#[inline]\npub fn f(x: u8) {\n    x;\n}\n"
         );
         assert_eq!(
@@ -290,10 +293,13 @@ mod tests {
 
     #[test]
     fn formatters() {
-        assert_eq!(
-            erased("impl fmt::Display for A {\n    fn fmt<W: fmt::Write>(&self, f: &mut fmt::Formatter<W>) -> fmt::Result {\n        x\n    }\n}\n"),
-            "impl fmt::Display for A {\n    fn fmt(&self, f: &mut fmt::Formatter<'_>) -> fmt::Result {\n        x\n    }\n}\n"
-        );
+        let method = |name, of| {
+            format!(
+                "impl A for B {{\n    fn {name}(&self, f: &mut fmt::Formatter<{of}>) {{}}\n}}\n"
+            )
+        };
+        assert_eq!(erased(&method("fmt<W: fmt::Write>", "W")), method("fmt", "'_"));
+        assert_eq!(erased(&method("show<W: fmt::Write>", "W")), method("show<W: fmt::Write>", "W"));
     }
 
     #[test]

@@ -46,57 +46,90 @@ pub(crate) fn tokens(source: &str) -> Result<Vec<Token<'_>>, Refusal> {
 pub(crate) fn tokens_and_docs(
     source: &str,
 ) -> Result<(Vec<Token<'_>>, Vec<Range<usize>>), Refusal> {
-    let (mut tokens, mut docs): (Vec<Token>, Vec<Range<usize>>) = Default::default();
-    let mut opened = Vec::new();
-    let (mut at, mut leads) = (0, None);
-    while let Some(first) = source[at..].chars().next() {
+    let (mut scan, mut at) = (Scan { source, ..Scan::default() }, 0);
+    while at < source.len() {
         let rest = &source[at..];
-        if first.is_whitespace() {
-            let space = &rest[..rest.len() - rest.trim_start().len()];
-            if space.matches('\n').count() > 1 {
-                leads = None;
-            }
-            at += space.len();
-            continue;
-        }
-        if rest.starts_with("//") || rest.starts_with("/*") {
-            let after_code =
-                tokens.last().is_some_and(|last| !source[last.end()..at].contains('\n'));
-            if rest.starts_with("//!") || after_code {
-                leads = None;
-            } else {
-                leads = leads.or(Some(at));
-            }
-            let len =
-                comment(rest).ok_or_else(|| Refusal::at(source, at, "a comment without an end"))?;
-            if rest.starts_with("///") || rest.starts_with("//!") {
-                docs.push(at..at + len);
-            }
-            at += len;
-            continue;
-        }
-        let (kind, len) =
-            token(rest).ok_or_else(|| Refusal::at(source, at, "a literal without an end"))?;
-        let text = &rest[..len];
-        let index = tokens.len();
-        if kind == Kind::Close {
-            let open: usize = opened
-                .pop()
-                .ok_or_else(|| Refusal::at(source, at, "a bracket that closes none"))?;
-            if !matches!((tokens[open].text, text), ("(", ")") | ("[", "]") | ("{", "}")) {
-                return Err(Refusal::at(source, at, "a bracket that closes another kind"));
-            }
-            tokens[open].close = index;
-        }
-        if kind == Kind::Open {
-            opened.push(index);
-        }
-        tokens.push(Token { kind, text, at, leads: leads.take().unwrap_or(at), close: index });
-        at += len;
+        at += if rest.starts_with(char::is_whitespace) {
+            scan.space(rest)
+        } else if rest.starts_with("//") || rest.starts_with("/*") {
+            scan.comment(at)?
+        } else {
+            scan.token(at)?
+        };
     }
-    match opened.pop() {
-        Some(open) => Err(Refusal::at(source, tokens[open].at, "a bracket that nothing closes")),
-        None => Ok((tokens, docs)),
+    match scan.opened.pop() {
+        Some(open) => scan.refuse(scan.tokens[open].at, "a bracket that nothing closes"),
+        None => Ok((scan.tokens, scan.docs)),
+    }
+}
+
+/// What was found up to a place.
+#[derive(Default)]
+struct Scan<'a> {
+    source: &'a str,
+    tokens: Vec<Token<'a>>,
+    docs: Vec<Range<usize>>,
+    /// Brackets that aren't closed yet.
+    opened: Vec<usize>,
+    /// Where the comments begin that stand right above what comes next.
+    leads: Option<usize>,
+}
+
+impl<'a> Scan<'a> {
+    fn refuse<T>(&self, at: usize, why: &str) -> Result<T, Refusal> {
+        Err(Refusal::at(self.source, at, why))
+    }
+
+    /// The length of the space at the front. Comments above a blank line lead nothing.
+    fn space(&mut self, rest: &str) -> usize {
+        let len = rest.len() - rest.trim_start().len();
+        if rest[..len].matches('\n').count() > 1 {
+            self.leads = None;
+        }
+        len
+    }
+
+    fn comment(&mut self, at: usize) -> Result<usize, Refusal> {
+        let rest = &self.source[at..];
+        let after_code =
+            self.tokens.last().is_some_and(|last| !self.source[last.end()..at].contains('\n'));
+        let leads_nothing = rest.starts_with("//!") || after_code;
+        self.leads = if leads_nothing { None } else { self.leads.or(Some(at)) };
+        let Some(len) = comment(rest) else {
+            return self.refuse(at, "a comment without an end");
+        };
+        if rest.starts_with("///") || rest.starts_with("//!") {
+            self.docs.push(at..at + len);
+        }
+        Ok(len)
+    }
+
+    fn token(&mut self, at: usize) -> Result<usize, Refusal> {
+        let rest = &self.source[at..];
+        let Some((kind, len)) = token(rest) else {
+            return self.refuse(at, "a literal without an end");
+        };
+        let (text, index) = (&rest[..len], self.tokens.len());
+        match kind {
+            Kind::Open => self.opened.push(index),
+            Kind::Close => self.close(at, text)?,
+            _ => {}
+        }
+        let leads = self.leads.take().unwrap_or(at);
+        self.tokens.push(Token { kind, text, at, leads, close: index });
+        Ok(len)
+    }
+
+    /// Notes in the bracket that was opened last that this one closes it.
+    fn close(&mut self, at: usize, text: &str) -> Result<(), Refusal> {
+        let Some(open) = self.opened.pop() else {
+            return self.refuse(at, "a bracket that closes none");
+        };
+        if !matches!((self.tokens[open].text, text), ("(", ")") | ("[", "]") | ("{", "}")) {
+            return self.refuse(at, "a bracket that closes another kind");
+        }
+        self.tokens[open].close = self.tokens.len();
+        Ok(())
     }
 }
 
