@@ -45,7 +45,7 @@ impl ReplacedFile {
     }
 
     /// Gives the file its name.
-    pub fn name(self) -> Result<(), Failure> {
+    pub fn persist(self) -> Result<(), Failure> {
         self.partial.persist().map_err(|why| unrecorded(&self.path, why))
     }
 }

@@ -59,18 +59,18 @@ pub async fn end(
     say_cancels(proxy);
     match (ended?, lost) {
         (_, Some(lost)) => Ok(lost as u8),
-        (status, None) => name(replaced, proxy).map(|()| status),
+        (status, None) => persist(replaced, proxy).map(|()| status),
     }
 }
 
 /// Gives a recording its name that has none until now, if there is a session in it.
-fn name(replaced: Option<ReplacedFile>, proxy: &Proxy) -> Result<(), Failure> {
+fn persist(replaced: Option<ReplacedFile>, proxy: &Proxy) -> Result<(), Failure> {
     let Some(replaced) = replaced else {
         return Ok(());
     };
     let count = proxy.sessions.load(Ordering::Relaxed);
     if count > 0 {
-        replaced.name()?;
+        replaced.persist()?;
     }
     proxy.stderr.say(match count {
         0 => "no session is recorded".to_owned(),
