@@ -111,7 +111,7 @@ follow() {
 
 test_logical() {
     if ! find_builder; then
-        echo 'left out: logical replication, which needs Python 3.11 (apt-get install python3 python3-cffi python3-setuptools python3-wheel pkg-config)'
+        echo 'left out: logical replication, which needs Python 3.11 (apt-get install python3-dev python3-cffi python3-setuptools python3-wheel pkg-config)'
         return
     fi
     prepare_package

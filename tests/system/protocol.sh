@@ -38,7 +38,7 @@ test_versions() {
 
 test_protocol() {
     if ! find_builder; then
-        echo 'left out: messages that are seldom, which need Python 3.11 (apt-get install python3 python3-cffi python3-setuptools python3-wheel pkg-config)'
+        echo 'left out: messages that are seldom, which need Python 3.11 (apt-get install python3-dev python3-cffi python3-setuptools python3-wheel pkg-config)'
         return
     fi
     prepare_package

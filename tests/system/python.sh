@@ -10,7 +10,7 @@ has_python() {
 find_builder() {
     command -v pkg-config > /dev/null || return
     for builder in python3 /usr/bin/python3; do
-        if "$builder" -c 'import sys, cffi, setuptools, wheel; sys.exit(sys.version_info < (3, 11))' 2> /dev/null; then
+        if "$builder" -c 'import os, sys, sysconfig, cffi, setuptools, wheel; sys.exit(sys.version_info < (3, 11) or not os.path.exists(sysconfig.get_path("include") + "/pyconfig.h"))' 2> /dev/null; then
             return
         fi
     done
@@ -78,7 +78,7 @@ make_refusing() {
 
 test_python() {
     if ! find_builder; then
-        echo 'left out: the tests of the Python package, which needs Python 3.11 (apt-get install python3 python3-cffi python3-setuptools python3-wheel pkg-config)'
+        echo 'left out: the tests of the Python package, which needs Python 3.11 (apt-get install python3-dev python3-cffi python3-setuptools python3-wheel pkg-config)'
         return
     fi
     prepare_package

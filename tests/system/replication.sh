@@ -61,7 +61,7 @@ standby_ctl() {
 
 test_replication() {
     if ! find_builder || [ ! -x "$bin/pg_receivewal" ] || [ ! -x "$bin/pg_basebackup" ]; then
-        echo 'left out: replication through pg_record, which needs Python 3.11, pg_receivewal and pg_basebackup (apt-get install python3 python3-cffi python3-setuptools python3-wheel pkg-config postgresql-client)'
+        echo 'left out: replication through pg_record, which needs Python 3.11, pg_receivewal and pg_basebackup (apt-get install python3-dev python3-cffi python3-setuptools python3-wheel pkg-config postgresql-client)'
         return
     fi
     prepare_package

@@ -122,7 +122,7 @@ test_passed_on() {
         as_tags "$work/recorded" > "$work/connections/recorded.lines"
     fi
     if ! find_builder; then
-        echo 'left out: recordings passed on, which need Python 3.11 (apt-get install python3 python3-cffi python3-setuptools python3-wheel pkg-config)'
+        echo 'left out: recordings passed on, which need Python 3.11 (apt-get install python3-dev python3-cffi python3-setuptools python3-wheel pkg-config)'
         return
     fi
     prepare_package
