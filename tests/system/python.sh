@@ -6,11 +6,15 @@ has_python() {
     python3 -c 'import sys; sys.exit(sys.version_info < (3, 11))' 2> /dev/null
 }
 
+# What a Python that can build the package ends with 0 for.
+builds='import os, sys, sysconfig, cffi, setuptools, wheel
+sys.exit(sys.version_info < (3, 11) or not os.path.exists(sysconfig.get_path("include") + "/pyconfig.h"))'
+
 # Sets $builder to a Python that can build the package without a network and run it, or answers false.
 find_builder() {
     command -v pkg-config > /dev/null || return
     for builder in python3 /usr/bin/python3; do
-        if "$builder" -c 'import os, sys, sysconfig, cffi, setuptools, wheel; sys.exit(sys.version_info < (3, 11) or not os.path.exists(sysconfig.get_path("include") + "/pyconfig.h"))' 2> /dev/null; then
+        if "$builder" -c "$builds" 2> /dev/null; then
             return
         fi
     done
