@@ -16,7 +16,7 @@ pub enum Listener {
 
 /// Whether a path is a Unix socket on which nothing listens any more, as one is left of a process that was killed.
 fn is_abandoned(path: &Path) -> bool {
-    let is_socket = std::fs::symlink_metadata(path).map_or(false, |it| it.file_type().is_socket());
+    let is_socket = std::fs::symlink_metadata(path).is_ok_and(|it| it.file_type().is_socket());
     is_socket
         && matches!(StdUnixStream::connect(path), Err(why) if why.kind() == io::ErrorKind::ConnectionRefused)
 }

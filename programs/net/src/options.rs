@@ -79,7 +79,7 @@ impl ListenOptions {
     /// The threads that serve clients.
     pub fn workers(&self) -> std::io::Result<Workers> {
         let processors = std::thread::available_parallelism().map_or(1, |it| it.get() as u64);
-        let usual = ((processors + 1) / 2).min(THREADS_MOST);
+        let usual = processors.div_ceil(2).min(THREADS_MOST);
         Workers::new(self.threads.unwrap_or(usual) as usize)
     }
 }

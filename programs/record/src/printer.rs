@@ -59,7 +59,7 @@ impl Printer {
 
     /// Adds the lines of messages that are whole with a record.
     pub fn take(&mut self, number: u32, kind: RecordKind, content: &[u8]) {
-        if self.only.map_or(false, |only| only != number) {
+        if self.only.is_some_and(|only| only != number) {
             return;
         }
         let at = |side| if side == Side::Client { 0 } else { 1 };

@@ -232,7 +232,7 @@ impl RecordSink {
             }
         }
         let is_lost = |file: &RecordingOutput| file.is_lost.load(Ordering::Relaxed);
-        let is_lost = self.file.as_ref().map_or(false, is_lost);
+        let is_lost = self.file.as_ref().is_some_and(is_lost);
         Some(ExitStatus::Unrecorded).filter(|_| is_lost)
     }
 

@@ -150,7 +150,7 @@ impl Recorder {
         let is_empty = |it: &Metadata| it.is_file() && it.len() == HEAD as u64;
         if let Some(own) = out.file.metadata().ok().filter(is_empty) {
             let is_own = |it: Metadata| (it.dev(), it.ino()) == (own.dev(), own.ino());
-            let _ = match fs::symlink_metadata(path).map_or(false, is_own) {
+            let _ = match fs::symlink_metadata(path).is_ok_and(is_own) {
                 true => fs::remove_file(path),
                 false => out.file.set_len(0),
             };

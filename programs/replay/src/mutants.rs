@@ -125,7 +125,7 @@ fn say(
                 next.request = None;
             }
             RequestMatch::Differs(said) => {
-                assert!(said.map_or(true, |it| it < recording.requests.len()));
+                assert!(said.is_none_or(|it| it < recording.requests.len()));
                 break;
             }
         }

@@ -100,9 +100,9 @@ fn shown(side: Side, message: &RawMessage<'_>, writer: &mut LineWriter) -> Strin
     let content = writer.message(side, message);
     let is_secret = match side {
         Side::Client => pgmsg::frontend::Message::read_body(message.tag, message.body())
-            .map_or(false, |it| it.is_secret()),
+            .is_ok_and(|it| it.is_secret()),
         Side::Server => pgmsg::backend::Message::read_body(message.tag, message.body())
-            .map_or(false, |it| it.is_secret()),
+            .is_ok_and(|it| it.is_secret()),
     };
     let fields = match is_secret {
         true => String::new(),

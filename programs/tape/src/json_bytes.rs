@@ -24,7 +24,7 @@ fn is_no_text(byte: u8) -> bool {
 
 /// Whether bytes have a control character above ASCII, which is one from U+0080 to U+009F.
 fn has_high_control(bytes: &[u8]) -> bool {
-    memchr_iter(0xc2, bytes).any(|at| bytes.get(at + 1).map_or(false, |it| *it < 0xa0))
+    memchr_iter(0xc2, bytes).any(|at| bytes.get(at + 1).is_some_and(|it| *it < 0xa0))
 }
 
 /// Whether there is a byte like that. All are looked at, which a compiler does many at a time.

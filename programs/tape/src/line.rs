@@ -199,7 +199,7 @@ impl LineWriter {
         };
         let start = out.len();
         out.extend_from_slice(&self.begin);
-        let is_put = layout.map_or(false, |layout| layout.put(out, message.body()));
+        let is_put = layout.is_some_and(|layout| layout.put(out, message.body()));
         if !is_put {
             out.truncate(start);
         }

@@ -93,7 +93,7 @@ fn each_fault_is_named_by_its_line() {
     for (at, (lines, wanted)) in FAULTS.into_iter().enumerate() {
         let found = fault(&format!("fault{at}"), spelled(lines).as_bytes());
         assert!(
-            found.as_deref().map_or(false, |it| it.starts_with(&format!("line {wanted}"))),
+            found.as_deref().is_some_and(|it| it.starts_with(&format!("line {wanted}"))),
             "{wanted}, not {found:?}"
         );
     }
@@ -165,7 +165,7 @@ fn lines_that_are_changed_at_random_are_a_recording_or_a_named_fault() {
                 _ => changed.truncate(at),
             }
         }
-        named += usize::from(fault("mutant", &changed).map_or(false, |it| it.starts_with("line ")));
+        named += usize::from(fault("mutant", &changed).is_some_and(|it| it.starts_with("line ")));
     }
     assert!(named > 350, "{named}");
 }

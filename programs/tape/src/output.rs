@@ -35,7 +35,7 @@ impl Write for ReopenedFile {
 fn is_stdout(file: &Metadata) -> bool {
     let stdout = io::stdout().as_fd().try_clone_to_owned().map(File::from);
     let is_same = |it: Metadata| (it.dev(), it.ino()) == (file.dev(), file.ino());
-    stdout.and_then(|it| it.metadata()).map_or(false, is_same)
+    stdout.and_then(|it| it.metadata()).is_ok_and(is_same)
 }
 
 impl Output {

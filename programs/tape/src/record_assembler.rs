@@ -137,7 +137,7 @@ impl<W: Write> RecordAssembler<W> {
         let goes_on = |it: RecordPosition| {
             (it.connection, it.time, it.side) == (position.connection, position.time, position.side)
         };
-        if position.begins || !self.current.map_or(false, goes_on) {
+        if position.begins || !self.current.is_some_and(goes_on) {
             self.flush()?;
             self.current = Some(position);
         }

@@ -53,7 +53,7 @@ fn put_copy_response(printer: &mut BodyPrinter<'_, '_>) {
 
 /// The fields of an error or a notice, up to the NUL after the last.
 fn put_fields(printer: &mut BodyPrinter<'_, '_>) {
-    while printer.byte().map_or(false, |letter| letter != 0) {
+    while printer.byte().is_some_and(|letter| letter != 0) {
         printer.text();
     }
 }

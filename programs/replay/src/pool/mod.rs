@@ -182,7 +182,7 @@ impl Pool {
                 .filter(|it| *it < self.recording.turns[turn].requests().end),
             None => self.own(slot).next().map(|turn| self.recording.turns[turn].requests().start),
         };
-        let has_to_go_on = slot.snapshot.map_or(false, |it| !self.recording.is_left_open(it));
+        let has_to_go_on = slot.snapshot.is_some_and(|it| !self.recording.is_left_open(it));
         ExpectedRequest {
             request,
             is_sure: slot.turn.is_some() || self.recording.is_single() || has_to_go_on,
@@ -196,8 +196,7 @@ impl Pool {
     /// Whether what a client has begun goes on with a message with a fingerprint.
     pub fn goes_on_with(&self, id: usize, fingerprint: u32) -> bool {
         let next = self.expected(id).request.filter(|_| self.slot(id).turn.is_some());
-        next.map_or(
-            false,
+        next.is_some_and(
             |it| matches!(self.recording.requests.compare_by(it), CompareBy::Fingerprint(it) if it == fingerprint),
         )
     }

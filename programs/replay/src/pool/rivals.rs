@@ -41,7 +41,7 @@ pub(super) fn fingerprints_apart(recording: &Recording) -> HashSet<u32> {
         }
     }
     let is_apart = |it: &FingerprintAnswers| it.is_apart && it.is_of_others;
-    let apart = seen.iter().zip(0..).filter(|(it, _)| it.as_ref().map_or(false, is_apart));
+    let apart = seen.iter().zip(0..).filter(|(it, _)| it.as_ref().is_some_and(is_apart));
     apart.map(|(_, fingerprint)| fingerprint).collect()
 }
 
@@ -175,7 +175,7 @@ impl Pool {
         let same_place = Some(same_place).filter(|it| self.begins_alike(there, turn, *it));
         if let Some(other) = same_place {
             let answered = self.alike_until(turn, other, count)?;
-            if answered.map_or(false, |it| Some(self.recording.sum_of(it)) == sum) {
+            if answered.is_some_and(|it| Some(self.recording.sum_of(it)) == sum) {
                 return Ok(None);
             }
         }

@@ -107,7 +107,7 @@ pub struct AnswerMatcher {
 impl AnswerMatcher {
     /// Whether data go both ways.
     pub fn is_both(&self) -> bool {
-        self.copy.map_or(false, |it| it.is_both)
+        self.copy.is_some_and(|it| it.is_both)
     }
 
     /// Takes a message of the client, by its number. Answers to which message those belong that were held.
@@ -192,14 +192,14 @@ impl AnswerMatcher {
 
     /// Forgets what the server doesn't take after an error. Answers whether a Sync is there already.
     fn skip_to_sync(&mut self) -> bool {
-        while self.queue.front().map_or(false, |(_, kind)| *kind != RequestKind::Sync) {
+        while self.queue.front().is_some_and(|(_, kind)| *kind != RequestKind::Sync) {
             self.queue.pop_front();
         }
         !self.queue.is_empty()
     }
 
     fn on_ready(&mut self) -> AnswerTarget {
-        if self.copy.map_or(false, |it| it.has_failed && !it.is_extended) {
+        if self.copy.is_some_and(|it| it.has_failed && !it.is_extended) {
             self.queue.pop_front();
             return AnswerTarget::Held;
         }

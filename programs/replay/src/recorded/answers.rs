@@ -203,7 +203,7 @@ impl ConnectionBuilder {
                 let is_cancelled = self
                     .process
                     .and_then(|it| cancelled.get(&it))
-                    .map_or(false, |at| *at >= asked_at);
+                    .is_some_and(|at| *at >= asked_at);
                 match code {
                     b"57014" if is_cancelled => Wait::Cancel,
                     code if is_by_itself || TIMED.contains(&code) => Wait::Time(

@@ -303,7 +303,7 @@ impl ConnectionBuilder {
     }
 
     fn fingerprint_up_to(&mut self, end: u32, fingerprints: &mut Fingerprints) {
-        while self.pending_fingerprints.front().map_or(false, |it| it.request < end) {
+        while self.pending_fingerprints.front().is_some_and(|it| it.request < end) {
             let Some(PendingFingerprint { request, tag, body }) =
                 self.pending_fingerprints.pop_front()
             else {

@@ -276,7 +276,7 @@ impl Recording {
         };
         let fits = match next.is_empty() {
             true => len == passed,
-            false => len.checked_sub(passed).map_or(false, |it| it >= next.len() as u64),
+            false => len.checked_sub(passed).is_some_and(|it| it >= next.len() as u64),
         };
         if !fits {
             return Ok(false);
@@ -366,7 +366,7 @@ impl Recording {
             let message = self.message(request)?;
             fingerprinter.message(Some(message[0]), &message[HEAD..]);
             fingerprinter.settle(recorded);
-            if savepoint.map_or(false, |it| it >= fingerprinter.savepoints()) {
+            if savepoint.is_some_and(|it| it >= fingerprinter.savepoints()) {
                 break;
             }
         }

@@ -99,7 +99,7 @@ pub fn compared(allowed: &AllowedDifferences<'_>, side: &ReportedMessage) -> Opt
         ReportedMessage::Startup(_) => {
             all.retain(|(name, _)| !allowed.rules.is_any_setting(name.as_bytes()))
         }
-        _ => all.retain(|(name, _)| !position(name).map_or(false, &is_any_value)),
+        _ => all.retain(|(name, _)| !position(name).is_some_and(&is_any_value)),
     }
     Some(all)
 }

@@ -143,7 +143,7 @@ fn like(one: &str, other: &str) -> Option<&'static str> {
     let patterns =
         [r"\d+", r"[0-9a-f]+", r"\w+", r"[0-9a-f-]+", r"[\d :.+TZ-]+", r"[^' ]*", r"[^']*"];
     let fits = |text: &str, pattern: &str| {
-        Regex::new(&format!("^(?:{pattern})$")).map_or(false, |it| it.is_match(text.as_bytes()))
+        Regex::new(&format!("^(?:{pattern})$")).is_ok_and(|it| it.is_match(text.as_bytes()))
     };
     patterns.into_iter().find(|pattern| fits(one, pattern) && fits(other, pattern))
 }

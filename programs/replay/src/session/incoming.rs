@@ -310,7 +310,7 @@ impl ReplaySession<'_> {
 
     /// Takes the end of what the client sends.
     pub(super) fn end_of_client(&mut self) -> Result<(), RereadError> {
-        if self.comparison.as_ref().map_or(false, |it| it.left == 0) {
+        if self.comparison.as_ref().is_some_and(|it| it.left == 0) {
             self.finish_comparison();
         }
         if self.phase != SessionPhase::Serving || self.refuse_until.is_some() {

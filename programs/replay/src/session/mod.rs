@@ -242,7 +242,7 @@ impl<'s> ReplaySession<'s> {
 
     /// Ends a session whose client leaves out what it had sent at once.
     fn check_patience(&mut self, patience: Option<Instant>) {
-        if patience.map_or(false, |it| Instant::now() >= it) {
+        if patience.is_some_and(|it| Instant::now() >= it) {
             self.is_leaving = true;
             self.differ(ReportedMessage::Words("nothing, for too long".to_owned()));
         }

@@ -144,7 +144,7 @@ impl<'s> SendQueue<'s> {
             Wait::Request(request) => pool.is_said(slot, request),
             _ => true,
         };
-        while self.late.first().map_or(false, is_due) {
+        while self.late.first().is_some_and(is_due) {
             let number = self.late.remove(0);
             self.answers.push_back(QueuedAnswer::Recorded {
                 number,

@@ -236,7 +236,7 @@ fn hex_mask(secret: &[u8], mask: &Mask, is_tight: bool) -> Vec<u8> {
 fn base64_digits(bytes: &[u8], before: usize) -> Vec<u8> {
     let end = before + bytes.len();
     let padded = [&[0; 2][..before], bytes, &[0; 2][..(3 - end % 3) % 3]].concat();
-    base64::encode(padded).into_bytes()[(before * 4 + 2) / 3..end * 4 / 3].to_vec()
+    base64::encode(padded).into_bytes()[(before * 4).div_ceil(3)..end * 4 / 3].to_vec()
 }
 
 #[cfg(test)]

@@ -98,7 +98,7 @@ fn binary(type_id: u32, bytes: &mut [u8]) {
 /// Whether bytes of a type that isn't known are a text: up to eight may be a number.
 fn looks_like_text(bytes: &[u8]) -> bool {
     bytes.len() > 8
-        && std::str::from_utf8(bytes).map_or(false, |text| !text.chars().any(char::is_control))
+        && std::str::from_utf8(bytes).is_ok_and(|text| !text.chars().any(char::is_control))
 }
 
 /// Masks a text, by what it looks like.
@@ -115,7 +115,7 @@ pub fn text(bytes: &mut [u8]) {
 /// Whether a text is a date, alone or with a time of day and an offset. What has a word, such as BC or the name of a time
 /// zone, is none: its letters are masked too.
 fn is_date(bytes: &[u8]) -> bool {
-    let is_digit = |at: usize| bytes.get(at).map_or(false, u8::is_ascii_digit);
+    let is_digit = |at: usize| bytes.get(at).is_some_and(u8::is_ascii_digit);
     let has_digits = [0, 1, 2, 3, 5, 6, 8, 9].into_iter().all(is_digit);
     let time = bytes.get(DATE_LEN..).unwrap_or_default();
     let time = time.strip_prefix(b"T").unwrap_or(time);
@@ -134,7 +134,7 @@ fn date(bytes: &mut [u8]) {
 
 fn is_number(bytes: &[u8]) -> bool {
     let digits = bytes.strip_prefix(b"-").unwrap_or(bytes);
-    digits.first().map_or(false, u8::is_ascii_digit)
+    digits.first().is_some_and(u8::is_ascii_digit)
         && digits.iter().all(|it| it.is_ascii_digit() || b".eE+-".contains(it))
 }
 
@@ -252,9 +252,7 @@ fn character(bytes: &[u8]) -> usize {
     }
     let most = bytes.len().min(4);
     (2..=most)
-        .find(|len| {
-            std::str::from_utf8(&bytes[..*len]).map_or(false, |text| text.chars().count() == 1)
-        })
+        .find(|len| std::str::from_utf8(&bytes[..*len]).is_ok_and(|text| text.chars().count() == 1))
         .unwrap_or(1)
 }
 

@@ -40,7 +40,7 @@ const LEFT_OUT: u32 = (4 + WHOLE.len() + 1) as u32;
 /// Takes secrets out of a recording, by a file of rules where one is named.
 pub fn redact(path: &Path, rules: Option<&Path>, to: &Path) -> Result<TapeStatus> {
     let rules = rules.map_or_else(|| Ok(RedactionRules::default()), RedactionRules::read)?;
-    if std::fs::metadata(path).map_or(false, |it| !it.is_file()) {
+    if std::fs::metadata(path).is_ok_and(|it| !it.is_file()) {
         let words = format!("{} is read more than once, and is no file", path.display());
         return Err(TapeFailure::new(TapeStatus::Usage, words));
     }
@@ -64,7 +64,7 @@ pub fn redact(path: &Path, rules: Option<&Path>, to: &Path) -> Result<TapeStatus
 fn other(why: AssembleError) -> std::io::Error {
     match why {
         AssembleError::File(why) => why,
-        why => std::io::Error::new(std::io::ErrorKind::Other, why),
+        why => std::io::Error::other(why),
     }
 }
 
