@@ -38,7 +38,7 @@ test_replay_damage() {
     try "$programs/pg_replay" --any-parameter 0 "$file" 0
     expect 'replay: a position below the first' 1 usage
     try "$programs/pg_replay" "$file"
-    expect 'replay: no address to listen on' 1 'pg_replay: where to listen is missing: LISTEN_PORT, or --listen ADDRESS'
+    expect 'replay: no address to listen on' 1 'pg_replay: where to listen is missing: LISTEN_PORT, --listen ADDRESS, or a command after `--`'
     try "$programs/pg_replay" -p 5432 "$file" 0
     expect 'replay: a server that has no use' 1 'pg_replay: a server has a use with --record-missing or --record-all alone'
     test_replay_cut "$file" "$copy" "$size"
