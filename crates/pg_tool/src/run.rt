@@ -21,7 +21,7 @@ const WRONG_USAGE: u8 = 2;
 
 /// What the program does with its input.
 #[derive(Clone, Copy)]
-pub enum Command {
+pub enum Task {
     /// Writes messages as their bytes.
     Encode,
     /// Reads bodies by their tags.
@@ -40,19 +40,19 @@ pub fn start<R: Read, W: Write, E: Write>(
     output: &mut W,
     errors: &mut E,
 ) -> u8 {
-    let (is_server, usage, command) = match args {
-        [] => (false, USAGE, Some(Command::Encode)),
-        [side, words @ ..] if side.as_str() == SERVER => (true, SERVER_USAGE, command_of(words)),
-        words => (false, USAGE, command_of(words)),
+    let (is_server, usage, task) = match args {
+        [] => (false, USAGE, Some(Task::Encode)),
+        [side, words @ ..] if side.as_str() == SERVER => (true, SERVER_USAGE, task_of(words)),
+        words => (false, USAGE, task_of(words)),
     };
-    let Some(command) = command else {
+    let Some(task) = task else {
         let _ = writeln!(errors, "{usage}");
         return WRONG_USAGE;
     };
     let run = if is_server {
-        run_server(alloc, command, input, output)
+        run_server(alloc, task, input, output)
     } else {
-        run_client(alloc, command, input, output)
+        run_client(alloc, task, input, output)
     };
     match run {
         Ok(()) => 0,
@@ -60,18 +60,18 @@ pub fn start<R: Read, W: Write, E: Write>(
     }
 }
 
-// Runs a command of a client's side. `Stream` writes the line of each message as soon as it is whole. The other
+// Runs a task of a client's side. `Stream` writes the line of each message as soon as it is whole. The other
 // two read all input, and then write all output, and nothing where a line is bad.
 fn run_client<R: Read, W: Write>(
     alloc: Global,
-    command: Command,
+    task: Task,
     input: &mut R,
     output: &mut W,
 ) -> Result<(), Fault> {
-    let text = match command {
-        Command::Encode => client::encode(alloc, read_all(alloc, input)?.as_slice())?,
-        Command::Decode => client::decode(alloc, read_all(alloc, input)?.as_slice())?,
-        Command::Stream => return stream(alloc, FrameReader::new(alloc), input, output),
+    let text = match task {
+        Task::Encode => client::encode(alloc, read_all(alloc, input)?.as_slice())?,
+        Task::Decode => client::decode(alloc, read_all(alloc, input)?.as_slice())?,
+        Task::Stream => return stream(alloc, FrameReader::new(alloc), input, output),
     };
     write_text(output, text.as_str())
 }
@@ -79,14 +79,14 @@ fn run_client<R: Read, W: Write>(
 // The same of a server's side, whose stream begins with a connection.
 fn run_server<R: Read, W: Write>(
     alloc: Global,
-    command: Command,
+    task: Task,
     input: &mut R,
     output: &mut W,
 ) -> Result<(), Fault> {
-    let text = match command {
-        Command::Encode => server::encode(alloc, read_all(alloc, input)?.as_slice())?,
-        Command::Decode => server::decode(alloc, read_all(alloc, input)?.as_slice())?,
-        Command::Stream => {
+    let text = match task {
+        Task::Encode => server::encode(alloc, read_all(alloc, input)?.as_slice())?,
+        Task::Decode => server::decode(alloc, read_all(alloc, input)?.as_slice())?,
+        Task::Stream => {
             let messages = FrontendFrameReader::new(alloc, MAX_FIRST_LENGTH);
             return stream(alloc, messages, input, output);
         }
@@ -94,15 +94,15 @@ fn run_server<R: Read, W: Write>(
     write_text(output, text.as_str())
 }
 
-// The command that one word names.
-fn command_of(words: &[String]) -> Option<Command> {
+// The task that one word names.
+fn task_of(words: &[String]) -> Option<Task> {
     let [word] = words else {
         return None;
     };
     match word.as_str() {
-        "encode" => Some(Command::Encode),
-        "decode" => Some(Command::Decode),
-        "stream" => Some(Command::Stream),
+        "encode" => Some(Task::Encode),
+        "decode" => Some(Task::Decode),
+        "stream" => Some(Task::Stream),
         _ => None,
     }
 }

@@ -10,7 +10,7 @@ const PIECE: usize = 8192;
 
 /// Whether a stream gives more messages.
 #[derive(Clone, Copy)]
-pub enum Progress {
+pub enum StreamProgress {
     /// It does as soon as more bytes come.
     WantsMore,
     /// No message begins as the bytes go on.
@@ -24,7 +24,7 @@ pub trait Messages: Sized + Drop {
 
     /// Adds a line for each message that is whole, or for a fault of the stream. Each line is added whole
     /// or not at all.
-    fn push_lines(&mut self, alloc: Global, lines: &mut String) -> Result<Progress, Fault>;
+    fn push_lines(&mut self, alloc: Global, lines: &mut String) -> Result<StreamProgress, Fault>;
 
     /// How many bytes are no whole message yet.
     fn rest(&self) -> usize;
@@ -49,8 +49,8 @@ pub fn stream<M: Messages, R: Read, W: Write>(
             Err(error) => return Err(Fault::of_read(error)),
         };
         match pass_on(alloc, &piece[..count], &mut messages, output)? {
-            Progress::WantsMore => {}
-            Progress::Stopped => return Ok(()),
+            StreamProgress::WantsMore => {}
+            StreamProgress::Stopped => return Ok(()),
         }
     }
     write_rest(alloc, messages.rest(), output)
@@ -62,7 +62,7 @@ fn pass_on<M: Messages, W: Write>(
     bytes: &[u8],
     messages: &mut M,
     output: &mut W,
-) -> Result<Progress, Fault> {
+) -> Result<StreamProgress, Fault> {
     messages.feed(bytes)?;
     let mut lines = String::new(alloc);
     let progress = messages.push_lines(alloc, &mut lines);

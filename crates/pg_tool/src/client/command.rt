@@ -17,14 +17,14 @@ pub enum Command<'a> {
     Bind {
         portal: u32,
         statement: u32,
-        values: Values,
+        values: BindValues,
     },
     Cleartext(&'a str),
-    Close(Target),
+    Close(NumberedTarget),
     CopyData(Vec<u8>),
     CopyDone,
     CopyFail(CopyFail),
-    Describe(Target),
+    Describe(NumberedTarget),
     Execute {
         portal: u32,
         limit: u32,
@@ -48,7 +48,7 @@ pub enum Command<'a> {
 
 /// The values of a Bind, and the formats of them and of the result.
 #[derive(Drop)]
-pub struct Values {
+pub struct BindValues {
     pub formats: Vec<PgValueFormat>,
     pub num_params: u16,
     pub params: Vec<u8>,
@@ -57,7 +57,7 @@ pub struct Values {
 
 /// A statement or a portal, by its number.
 #[derive(Clone, Copy)]
-pub enum Target {
+pub enum NumberedTarget {
     Statement(u32),
     Portal(u32),
 }
@@ -133,7 +133,7 @@ pub fn message_of<'a>(command: &'a Command<'a>) -> TaggedMessage<'a> {
     }
 }
 
-fn bind(portal: u32, statement: u32, values: &Values) -> TaggedMessage<'_> {
+fn bind(portal: u32, statement: u32, values: &BindValues) -> TaggedMessage<'_> {
     TaggedMessage::Bind(Bind {
         portal: PortalId::from_number(portal),
         statement: StatementId::from_number(statement),
@@ -144,17 +144,17 @@ fn bind(portal: u32, statement: u32, values: &Values) -> TaggedMessage<'_> {
     })
 }
 
-fn close<'a>(target: Target) -> TaggedMessage<'a> {
+fn close<'a>(target: NumberedTarget) -> TaggedMessage<'a> {
     TaggedMessage::Close(match target {
-        Target::Statement(number) => Close::Statement(StatementId::from_number(number)),
-        Target::Portal(number) => Close::Portal(PortalId::from_number(number)),
+        NumberedTarget::Statement(number) => Close::Statement(StatementId::from_number(number)),
+        NumberedTarget::Portal(number) => Close::Portal(PortalId::from_number(number)),
     })
 }
 
-fn describe<'a>(target: Target) -> TaggedMessage<'a> {
+fn describe<'a>(target: NumberedTarget) -> TaggedMessage<'a> {
     TaggedMessage::Describe(match target {
-        Target::Statement(number) => Describe::Statement(StatementId::from_number(number)),
-        Target::Portal(number) => Describe::Portal(PortalId::from_number(number)),
+        NumberedTarget::Statement(number) => Describe::Statement(StatementId::from_number(number)),
+        NumberedTarget::Portal(number) => Describe::Portal(PortalId::from_number(number)),
     })
 }
 
@@ -188,7 +188,7 @@ fn bind_of(alloc: Global, line: &str) -> Result<Option<Command<'_>>, Fault> {
 }
 
 // `FORMATS COUNT HEX FORMATS`
-fn values_of(alloc: Global, line: &str) -> Result<Option<Values>, Fault> {
+fn values_of(alloc: Global, line: &str) -> Result<Option<BindValues>, Fault> {
     let Some((formats, count, rest)) = three_words(line) else {
         return Ok(None);
     };
@@ -204,7 +204,7 @@ fn values_of(alloc: Global, line: &str) -> Result<Option<Values>, Fault> {
     ) else {
         return Ok(None);
     };
-    Ok(Some(Values {
+    Ok(Some(BindValues {
         formats,
         num_params,
         params,
@@ -240,12 +240,12 @@ fn describe_of(line: &str) -> Option<Command<'_>> {
 }
 
 // `S NUMBER` or `P NUMBER`
-fn target_of(line: &str) -> Option<Target> {
+fn target_of(line: &str) -> Option<NumberedTarget> {
     let (letter, number) = line.split_once(' ')?;
     let number = u32_of(number)?;
     match letter {
-        "S" => Some(Target::Statement(number)),
-        "P" => Some(Target::Portal(number)),
+        "S" => Some(NumberedTarget::Statement(number)),
+        "P" => Some(NumberedTarget::Portal(number)),
         _ => None,
     }
 }

@@ -2,7 +2,7 @@
 
 use crate::digits::Hex;
 use crate::fault::Fault;
-use crate::stream::{Messages, Progress};
+use crate::stream::{Messages, StreamProgress};
 use pg_base::Error;
 use pg_frames::FrameReader;
 use pg_receive::message::ReceivedMessage;
@@ -19,7 +19,7 @@ impl Messages for FrameReader {
         }
     }
 
-    fn push_lines(&mut self, alloc: Global, lines: &mut String) -> Result<Progress, Fault> {
+    fn push_lines(&mut self, alloc: Global, lines: &mut String) -> Result<StreamProgress, Fault> {
         push_lines(alloc, self, lines)
     }
 
@@ -32,11 +32,11 @@ fn push_lines(
     alloc: Global,
     reader: &mut FrameReader,
     lines: &mut String,
-) -> Result<Progress, Fault> {
+) -> Result<StreamProgress, Fault> {
     loop {
         match reader.next_message() {
             Ok(Some(message)) => push_message(alloc, &message, lines)?,
-            Ok(None) => return Ok(Progress::WantsMore),
+            Ok(None) => return Ok(StreamProgress::WantsMore),
             Err(error) => return push_fault(alloc, error, lines),
         }
     }
@@ -50,12 +50,12 @@ fn push_message(
     lines.push_str(line_of(alloc, message)?.as_str())
 }
 
-fn push_fault(alloc: Global, error: Error, lines: &mut String) -> Result<Progress, Fault> {
+fn push_fault(alloc: Global, error: Error, lines: &mut String) -> Result<StreamProgress, Fault> {
     let Error::Protocol { fault, .. } = error else {
         return Err(Fault::OutOfMemory);
     };
     lines.push_str(format!(in alloc; "{fault}\n")?.as_str())?;
-    Ok(Progress::Stopped)
+    Ok(StreamProgress::Stopped)
 }
 
 fn line_of(alloc: Global, message: &ReceivedMessage) -> Result<String, AllocError> {

@@ -1,6 +1,8 @@
 //! The frame that a message becomes.
 
-use crate::server::reply::{Column, Field, Negotiation, Notice, Reply, Request};
+use crate::server::reply::{
+    AuthenticationRequest, Negotiation, OwnedColumn, OwnedField, OwnedNotice, Reply,
+};
 use pg_base::Error;
 use pg_server::backend::{
     OutboundAuthentication, OutboundColumn, OutboundCommandComplete, OutboundCopyData,
@@ -34,22 +36,32 @@ pub fn push_frame(alloc: Global, reply: &Reply, frames: &mut Vec<u8>) -> Result<
     }
 }
 
-fn push_request(alloc: Global, request: &Request, frames: &mut Vec<u8>) -> Result<(), Error> {
+fn push_request(
+    alloc: Global,
+    request: &AuthenticationRequest,
+    frames: &mut Vec<u8>,
+) -> Result<(), Error> {
     match request {
-        Request::Ok => encode(&OutboundAuthentication::Ok, frames),
-        Request::CleartextPassword => encode(&OutboundAuthentication::CleartextPassword, frames),
-        Request::Md5Password(salt) => encode(&OutboundAuthentication::Md5Password(*salt), frames),
-        Request::Sasl(names) => {
+        AuthenticationRequest::Ok => encode(&OutboundAuthentication::Ok, frames),
+        AuthenticationRequest::CleartextPassword => encode(
+            &OutboundAuthentication::CleartextPassword,
+            frames,
+        ),
+        AuthenticationRequest::Md5Password(salt) => encode(
+            &OutboundAuthentication::Md5Password(*salt),
+            frames,
+        ),
+        AuthenticationRequest::Sasl(names) => {
             let names = borrowed(alloc, names.as_slice())?;
             encode(&OutboundAuthentication::Sasl(names.as_slice()), frames)
         }
-        Request::SaslContinue(content) => {
+        AuthenticationRequest::SaslContinue(content) => {
             encode(
                 &OutboundAuthentication::SaslContinue(content.as_slice()),
                 frames,
             )
         }
-        Request::SaslFinal(content) => {
+        AuthenticationRequest::SaslFinal(content) => {
             encode(
                 &OutboundAuthentication::SaslFinal(content.as_slice()),
                 frames,
@@ -80,19 +92,22 @@ fn push_version(alloc: Global, version: &Negotiation, frames: &mut Vec<u8>) -> R
     encode(&OutboundNegotiateProtocolVersion { minor, options }, frames)
 }
 
-fn push_notice(alloc: Global, notice: &Notice, frames: &mut Vec<u8>) -> Result<(), Error> {
+fn push_notice(alloc: Global, notice: &OwnedNotice, frames: &mut Vec<u8>) -> Result<(), Error> {
     let kind = notice.kind;
     let fields: Vec<OutboundNoticeField<'_>> = notice
         .fields
         .iter()
-        .map(Field::outbound)
+        .map(OwnedField::outbound)
         .collect(alloc)?;
     let fields = fields.as_slice();
     encode(&OutboundNotice { kind, fields }, frames)
 }
 
-fn push_columns(alloc: Global, columns: &[Column], frames: &mut Vec<u8>) -> Result<(), Error> {
-    let columns: Vec<OutboundColumn<'_>> = columns.iter().map(Column::outbound).collect(alloc)?;
+fn push_columns(alloc: Global, columns: &[OwnedColumn], frames: &mut Vec<u8>) -> Result<(), Error> {
+    let columns: Vec<OutboundColumn<'_>> = columns
+        .iter()
+        .map(OwnedColumn::outbound)
+        .collect(alloc)?;
     let columns = columns.as_slice();
     encode(&OutboundRowDescription { columns }, frames)
 }

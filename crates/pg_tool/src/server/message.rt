@@ -1,7 +1,7 @@
 //! The words of a message: its name and its fields in the order of its body.
 
 use crate::digits::Hex;
-use crate::server::word::{Setting, Value, push_list};
+use crate::server::word::{SettingWord, ValueWord, push_list};
 use pg_frames::frontend::ClientMessageRef;
 use pg_server::frontend::{
     BindRef, CancelRequestRef, FirstMessageRef, FormatCodes, FrontendFault, FrontendMessageRef,
@@ -45,7 +45,7 @@ fn push_first(message: FirstMessageRef<'_>, output: &mut String) -> Result<(), A
 fn push_startup(minor: u16, settings: Settings<'_>, output: &mut String) -> Result<(), AllocError> {
     write!(output, "startup {MAJOR_VERSION}.{minor} ")?;
     push_list(
-        settings.map(|(name, value)| Setting { name, value }),
+        settings.map(|(name, value)| SettingWord { name, value }),
         output,
     )
 }
@@ -124,5 +124,5 @@ fn push_codes(codes: FormatCodes<'_>, output: &mut String) -> Result<(), AllocEr
 }
 
 fn push_values(values: Values<'_>, output: &mut String) -> Result<(), AllocError> {
-    push_list(values.map(|value| Value(value)), output)
+    push_list(values.map(|value| ValueWord(value)), output)
 }

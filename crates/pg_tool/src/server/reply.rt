@@ -10,7 +10,7 @@ use pg_server::backend::{
 /// A message to a client.
 #[derive(Drop)]
 pub enum Reply {
-    Authentication(Request),
+    Authentication(AuthenticationRequest),
     BackendKeyData(KeyData),
     CommandComplete(Vec<u8>),
     CopyData(Vec<u8>),
@@ -19,17 +19,17 @@ pub enum Reply {
     FunctionCallResponse(Option<Vec<u8>>),
     NegotiateProtocolVersion(Negotiation),
     NoBody(OutboundNoBody),
-    Notice(Notice),
-    Notification(Notification),
+    Notice(OwnedNotice),
+    Notification(OwnedNotification),
     ParameterDescription(Vec<Oid>),
-    ParameterStatus(Setting),
+    ParameterStatus(OwnedSetting),
     ReadyForQuery(OutboundReadyForQuery),
-    RowDescription(Vec<Column>),
+    RowDescription(Vec<OwnedColumn>),
 }
 
 /// A request for authentication.
 #[derive(Drop)]
-pub enum Request {
+pub enum AuthenticationRequest {
     Ok,
     CleartextPassword,
     Md5Password([u8; 4]),
@@ -81,19 +81,19 @@ pub struct Negotiation {
 
 /// An error or a notice.
 #[derive(Drop)]
-pub struct Notice {
+pub struct OwnedNotice {
     pub kind: NoticeKind,
-    pub fields: Vec<Field>,
+    pub fields: Vec<OwnedField>,
 }
 
 /// A field of an error or a notice.
 #[derive(Drop)]
-pub struct Field {
+pub struct OwnedField {
     pub letter: u8,
     pub text: Vec<u8>,
 }
 
-impl Field {
+impl OwnedField {
     pub fn outbound(&self) -> OutboundNoticeField<'_> {
         OutboundNoticeField {
             letter: self.letter,
@@ -104,13 +104,13 @@ impl Field {
 
 /// A notification of a channel.
 #[derive(Drop)]
-pub struct Notification {
+pub struct OwnedNotification {
     pub process_id: u32,
     pub channel: Vec<u8>,
     pub payload: Vec<u8>,
 }
 
-impl Notification {
+impl OwnedNotification {
     pub fn outbound(&self) -> OutboundNotification<'_> {
         OutboundNotification {
             process_id: self.process_id,
@@ -122,12 +122,12 @@ impl Notification {
 
 /// A setting of the session.
 #[derive(Drop)]
-pub struct Setting {
+pub struct OwnedSetting {
     pub name: Vec<u8>,
     pub value: Vec<u8>,
 }
 
-impl Setting {
+impl OwnedSetting {
     pub fn outbound(&self) -> OutboundParameterStatus<'_> {
         OutboundParameterStatus {
             name: self.name.as_slice(),
@@ -138,7 +138,7 @@ impl Setting {
 
 /// A column of a result.
 #[derive(Drop)]
-pub struct Column {
+pub struct OwnedColumn {
     pub name: Vec<u8>,
     pub table: Oid,
     pub attribute: i16,
@@ -148,7 +148,7 @@ pub struct Column {
     pub format: i16,
 }
 
-impl Column {
+impl OwnedColumn {
     pub fn outbound(&self) -> OutboundColumn<'_> {
         OutboundColumn {
             name: self.name.as_slice(),

@@ -3,10 +3,10 @@
 use crate::digits::hex_array;
 use crate::fault::Fault;
 use crate::server::reply::{
-    Column, CopyResponse, Field, KeyData, Negotiation, Notice, Notification, Reply, Request,
-    Setting,
+    AuthenticationRequest, CopyResponse, KeyData, Negotiation, OwnedColumn, OwnedField,
+    OwnedNotice, OwnedNotification, OwnedSetting, Reply,
 };
-use crate::server::spelling::{Parts, Spelled, Word};
+use crate::server::spelling::{FromWord, Parts, Word};
 use pg_server::backend::{CopyDirection, NoticeKind, OutboundNoBody, OutboundReadyForQuery};
 use std::alloc::Global;
 
@@ -75,15 +75,15 @@ fn step_of(name: Word<'_>, words: &mut Parts<'_>) -> Result<Reply, Fault> {
     }
 }
 
-fn request_of(words: &mut Parts<'_>) -> Result<Request, Fault> {
+fn request_of(words: &mut Parts<'_>) -> Result<AuthenticationRequest, Fault> {
     let method = words.part()?;
     match method.text {
-        "ok" => Ok(Request::Ok),
-        "cleartext" => Ok(Request::CleartextPassword),
-        "md5" => Ok(Request::Md5Password(words.read()?)),
-        "sasl" => Ok(Request::Sasl(words.list()?)),
-        "continue" => Ok(Request::SaslContinue(words.read()?)),
-        "final" => Ok(Request::SaslFinal(words.read()?)),
+        "ok" => Ok(AuthenticationRequest::Ok),
+        "cleartext" => Ok(AuthenticationRequest::CleartextPassword),
+        "md5" => Ok(AuthenticationRequest::Md5Password(words.read()?)),
+        "sasl" => Ok(AuthenticationRequest::Sasl(words.list()?)),
+        "continue" => Ok(AuthenticationRequest::SaslContinue(words.read()?)),
+        "final" => Ok(AuthenticationRequest::SaslFinal(words.read()?)),
         _ => Err(method.bad),
     }
 }
@@ -106,7 +106,7 @@ fn negotiation_of(words: &mut Parts<'_>) -> Result<Reply, Fault> {
 
 // `PROCESS HEX HEX`
 fn notification_of(words: &mut Parts<'_>) -> Result<Reply, Fault> {
-    Ok(Reply::Notification(Notification {
+    Ok(Reply::Notification(OwnedNotification {
         process_id: words.read()?,
         channel: words.read()?,
         payload: words.read()?,
@@ -115,7 +115,7 @@ fn notification_of(words: &mut Parts<'_>) -> Result<Reply, Fault> {
 
 // `HEX HEX`
 fn setting_of(words: &mut Parts<'_>) -> Result<Reply, Fault> {
-    Ok(Reply::ParameterStatus(Setting {
+    Ok(Reply::ParameterStatus(OwnedSetting {
         name: words.read()?,
         value: words.read()?,
     }))
@@ -133,7 +133,7 @@ fn copy_of(direction: CopyDirection, words: &mut Parts<'_>) -> Result<Reply, Fau
 // `FIELDS`
 fn notice_of(kind: NoticeKind, words: &mut Parts<'_>) -> Result<Reply, Fault> {
     let fields = words.list()?;
-    Ok(Reply::Notice(Notice { kind, fields }))
+    Ok(Reply::Notice(OwnedNotice { kind, fields }))
 }
 
 // `STATUS`
@@ -148,13 +148,13 @@ fn ready_of(words: &mut Parts<'_>) -> Result<Reply, Fault> {
 }
 
 // `LETTER=HEX`
-impl Spelled for Field {
-    fn of(word: Word<'_>) -> Result<Field, Fault> {
+impl FromWord for OwnedField {
+    fn of(word: Word<'_>) -> Result<OwnedField, Fault> {
         let mut parts = word.parts('=');
         let letter = letter_of(parts.part()?)?;
         let text = parts.read()?;
         parts.end()?;
-        Ok(Field { letter, text })
+        Ok(OwnedField { letter, text })
     }
 }
 
@@ -168,10 +168,10 @@ fn letter_of(word: Word<'_>) -> Result<u8, Fault> {
 }
 
 // `NAME:TABLE:ATTRIBUTE:TYPE:SIZE:MODIFIER:FORMAT`
-impl Spelled for Column {
-    fn of(word: Word<'_>) -> Result<Column, Fault> {
+impl FromWord for OwnedColumn {
+    fn of(word: Word<'_>) -> Result<OwnedColumn, Fault> {
         let mut parts = word.parts(':');
-        let column = Column {
+        let column = OwnedColumn {
             name: parts.read()?,
             table: parts.read()?,
             attribute: parts.read()?,

@@ -7,7 +7,7 @@ use pg_base::io::Oid;
 use std::alloc::Global;
 
 /// What a word can spell.
-pub trait Spelled: Sized + Drop {
+pub trait FromWord: Sized + Drop {
     /// What the word spells. Where it spells none, the line of the word is bad.
     fn of(word: Word<'_>) -> Result<Self, Fault>;
 }
@@ -59,12 +59,12 @@ impl<'a> Parts<'a> {
     }
 
     /// What the next part spells.
-    pub fn read<T: Spelled>(&mut self) -> Result<T, Fault> {
+    pub fn read<T: FromWord>(&mut self) -> Result<T, Fault> {
         T::of(self.part()?)
     }
 
     /// What the next part spells with commas between the items, or `-` for none.
-    pub fn list<T: Spelled>(&mut self) -> Result<Vec<T>, Fault> {
+    pub fn list<T: FromWord>(&mut self) -> Result<Vec<T>, Fault> {
         let word = self.part()?;
         let mut items = Vec::new(word.alloc);
         if word.text == "-" {
@@ -85,58 +85,58 @@ impl<'a> Parts<'a> {
     }
 }
 
-impl Spelled for u32 {
+impl FromWord for u32 {
     fn of(word: Word<'_>) -> Result<u32, Fault> {
         u32_of(word.text).ok_or(word.bad)
     }
 }
 
-impl Spelled for u16 {
+impl FromWord for u16 {
     fn of(word: Word<'_>) -> Result<u16, Fault> {
         u16_of(word.text).ok_or(word.bad)
     }
 }
 
-impl Spelled for i32 {
+impl FromWord for i32 {
     fn of(word: Word<'_>) -> Result<i32, Fault> {
         i32_of(word.text).ok_or(word.bad)
     }
 }
 
-impl Spelled for i16 {
+impl FromWord for i16 {
     fn of(word: Word<'_>) -> Result<i16, Fault> {
         i16_of(word.text).ok_or(word.bad)
     }
 }
 
-impl Spelled for i8 {
+impl FromWord for i8 {
     fn of(word: Word<'_>) -> Result<i8, Fault> {
         i8_of(word.text).ok_or(word.bad)
     }
 }
 
-impl Spelled for Oid {
+impl FromWord for Oid {
     fn of(word: Word<'_>) -> Result<Oid, Fault> {
         Ok(Oid(u32::of(word)?))
     }
 }
 
 // Four bytes by their digits.
-impl Spelled for [u8; 4] {
+impl FromWord for [u8; 4] {
     fn of(word: Word<'_>) -> Result<[u8; 4], Fault> {
         hex_array(word.text).ok_or(word.bad)
     }
 }
 
 // Bytes by their digits, or `-` for none.
-impl Spelled for Vec<u8> {
+impl FromWord for Vec<u8> {
     fn of(word: Word<'_>) -> Result<Vec<u8>, Fault> {
         hex_bytes(word.alloc, word.text)?.ok_or(word.bad)
     }
 }
 
 // A value: `null`, or `x` and its digits.
-impl Spelled for Option<Vec<u8>> {
+impl FromWord for Option<Vec<u8>> {
     fn of(word: Word<'_>) -> Result<Option<Vec<u8>>, Fault> {
         if word.text == "null" {
             return Ok(None);

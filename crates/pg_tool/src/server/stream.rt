@@ -2,7 +2,7 @@
 
 use crate::fault::Fault;
 use crate::server::message::push_line;
-use crate::stream::{Messages, Progress};
+use crate::stream::{Messages, StreamProgress};
 use pg_frames::frontend::{ClientMessageRef, FrontendError, FrontendFrameReader};
 use pg_server::frontend::FrontendFault;
 use std::alloc::{AllocError, Global};
@@ -12,7 +12,7 @@ impl Messages for FrontendFrameReader {
         self.feed(bytes)
     }
 
-    fn push_lines(&mut self, alloc: Global, lines: &mut String) -> Result<Progress, Fault> {
+    fn push_lines(&mut self, alloc: Global, lines: &mut String) -> Result<StreamProgress, Fault> {
         push_lines(alloc, self, lines)
     }
 
@@ -26,22 +26,26 @@ fn push_lines(
     alloc: Global,
     reader: &mut FrontendFrameReader,
     lines: &mut String,
-) -> Result<Progress, Fault> {
+) -> Result<StreamProgress, Fault> {
     loop {
         match reader.next_message() {
             Ok(Some(message)) => push_whole_line(alloc, message.read(), lines)?,
-            Ok(None) => return Ok(Progress::WantsMore),
+            Ok(None) => return Ok(StreamProgress::WantsMore),
             Err(error) => return push_fault(alloc, error, lines),
         }
     }
 }
 
-fn push_fault(alloc: Global, error: FrontendError, lines: &mut String) -> Result<Progress, Fault> {
+fn push_fault(
+    alloc: Global,
+    error: FrontendError,
+    lines: &mut String,
+) -> Result<StreamProgress, Fault> {
     let FrontendError::Protocol(fault) = error else {
         return Err(Fault::OutOfMemory);
     };
     push_whole_line(alloc, Err(fault), lines)?;
-    Ok(Progress::Stopped)
+    Ok(StreamProgress::Stopped)
 }
 
 fn push_whole_line(

@@ -8,9 +8,9 @@ use std::fmt;
 
 /// A value: `null`, or `x` and its hexadecimal digits.
 #[derive(Clone, Copy)]
-pub struct Value<'a>(pub Option<&'a [u8]>);
+pub struct ValueWord<'a>(pub Option<&'a [u8]>);
 
-impl<'a> fmt::Display for Value<'a> {
+impl<'a> fmt::Display for ValueWord<'a> {
     fn fmt<W: fmt::Write>(&self, f: &mut fmt::Formatter<W>) -> fmt::Result {
         match self.0 {
             None => write!(f, "null"),
@@ -22,12 +22,12 @@ impl<'a> fmt::Display for Value<'a> {
 
 /// A setting of a session: its name, `=` and its value.
 #[derive(Clone, Copy)]
-pub struct Setting<'a> {
+pub struct SettingWord<'a> {
     pub name: &'a [u8],
     pub value: &'a [u8],
 }
 
-impl<'a> fmt::Display for Setting<'a> {
+impl<'a> fmt::Display for SettingWord<'a> {
     fn fmt<W: fmt::Write>(&self, f: &mut fmt::Formatter<W>) -> fmt::Result {
         write!(f, "{}={}", Hex(self.name), Hex(self.value))
     }
