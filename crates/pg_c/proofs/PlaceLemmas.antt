@@ -5,9 +5,8 @@ use Rattle.std.proofs.lemmas.Bool.{le-leb}
 use Rattle.std.proofs.lemmas.List.{take_at, drop_at}
 use Rattle.pg_base.specs.Reading.{Text}
 use Rattle.pg_format.specs.Format.{Means}
-use Rattle.pg_format.specs.Messages.{Notification, notification, Cancel, Setting}
+use Rattle.pg_format.specs.Messages.{Notification, notification, Cancel, Setting, backend_key}
 use Rattle.pg_receive.specs.Authentication.Raw.{Request, raw_request}
-use Rattle.pg_receive.specs.BackendKeyData.{raw_key_data}
 use Rattle.pg_receive.specs.CommandComplete.{tag_text}
 use Rattle.pg_receive.specs.ParameterStatus.{raw_parameter_status}
 use Rattle.pg_c.specs.Place.{bytes_in}
@@ -60,5 +59,5 @@ after_number body spelled content mid parts wide is =
 pub content_at : (body : List ℕ) (r : Request) → Means raw_request body r → bytes_in body 4 (length r.content) ≡ Some r.content
 content_at body r p = after_number body p.first.spelled r.content p.mid p.first.parts p.first.wide p.second.0
 
-pub key_at : (body : List ℕ) (k : Cancel) → Means raw_key_data body k → bytes_in body 4 (length k.secret_key) ≡ Some k.secret_key
+pub key_at : (body : List ℕ) (k : Cancel) → Means backend_key body k → bytes_in body 4 (length k.secret_key) ≡ Some k.secret_key
 key_at body k p = after_number body p.first.spelled k.secret_key p.mid p.first.parts p.first.wide p.second.0.0

@@ -11,7 +11,6 @@ use Rattle.pg_format.specs.Replication.{XLogData, replication}
 use Rattle.pg_format.specs.declared.replication.ReplicationKind.TheVariants as contents
 use Rattle.pg_receive.specs.Authentication.{value_of}
 use Rattle.pg_receive.specs.Authentication.Any.{any_value_of, any_requests}
-use Rattle.pg_receive.specs.BackendKeyData.{raw_key_data}
 use Rattle.pg_receive.specs.CommandComplete.{tag_text}
 use Rattle.pg_receive.specs.ParameterStatus.{raw_parameter_status}
 use Rattle.pg_receive.specs.RowDescription.Raw.{raw_row_description}
@@ -107,7 +106,7 @@ IsAskedBack other = Unit {0}
 
 -- what it says, where its reader asks for no UTF-8 and tests nothing
 abbrev pub IsReadRaw : Message → Type 0
-IsReadRaw (message.BackendKeyData key) = IsMeant raw_key_data key (message.BackendKeyData key)
+IsReadRaw (message.BackendKeyData key) = IsMeant page.backend_key key (message.BackendKeyData key)
 IsReadRaw (message.CommandComplete command) = IsMeant tag_text command (message.CommandComplete command)
 IsReadRaw (message.Notice kind fields) = fields_in (body (message.Notice kind fields)) ≡ fields
 IsReadRaw (message.ParameterStatus setting) = IsMeant raw_parameter_status setting (message.ParameterStatus setting)

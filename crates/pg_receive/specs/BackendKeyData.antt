@@ -1,11 +1,5 @@
--- BackendKeyData of a server that speaks protocol 3.2: a key of 4 to 256 bytes. Documentation: "Message
--- Formats", BackendKeyData (B).
-use Rattle.std.specs.Prelude.{length}
-use Rattle.pg_format.specs.Format.{Format}
-use Rattle.pg_format.specs.Format.Parts.{be_u32, remaining}
-use Rattle.pg_format.specs.Format.Sequences.{◌⨾◌, record_of}
-use Rattle.pg_format.specs.Format.Tests.{checked}
-use Rattle.pg_format.specs.Messages.{BackendKey, Cancel, key_fault}
+-- The values of a BackendKeyData.
+use Rattle.pg_format.specs.Messages.{BackendKey, Cancel}
 use Rattle.pg_receive.specs.declared.message.backend_key_data.BackendKeyData.{BackendKeyData}
 use Rattle.pg_receive.specs.declared.message.backend_key_data.RawKeyData.{RawKeyData}
 
@@ -13,9 +7,6 @@ use Rattle.pg_receive.specs.declared.message.backend_key_data.RawKeyData.{RawKey
 abbrev pub key_shown : BackendKeyData → BackendKey
 key_shown key = record { process_id = key.process_id; secret_key = key.secret_key }
 
--- the session and the key are those of the request to cancel
-abbrev pub raw_key_data : Format Cancel
-raw_key_data = record_of (λ c. (c.process_id, c.secret_key)) (be_u32 ⨾ checked (λ key. key_fault (length key)) remaining)
-
+-- the same of a key of 4 to 256 bytes: the session and the key are those of the request to cancel
 abbrev pub raw_key : RawKeyData → Cancel
 raw_key key = record { process_id = key.process_id; secret_key = key.secret_key.now }

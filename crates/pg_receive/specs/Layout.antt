@@ -11,8 +11,7 @@ use Rattle.pg_format.specs.Format.Nullable.{cell}
 use Rattle.pg_format.specs.Format.Parts.{until_nul, be_u32, be_i8, be_i16, bytes_of, remaining, one_of, success}
 use Rattle.pg_format.specs.Format.Sequences.{dep_pair, ◌⨾◌, viewed, choose}
 use Rattle.pg_format.specs.Format.Tests.{only}
-use Rattle.pg_format.specs.Messages.{Meaning, means, column_codes, field, Status, status_of, status_letter}
-use Rattle.pg_receive.specs.BackendKeyData.{raw_key_data}
+use Rattle.pg_format.specs.Messages.{Meaning, means, column_codes, field, Status, status_of, status_letter, backend_key}
 use Rattle.pg_receive.specs.RowDescription.Raw.{raw_column}
 
 -- ---- by the kind of message
@@ -46,7 +45,7 @@ asked method =
 
 abbrev pub layout : BackendMessageFormat → Meaning
 layout backend.Authentication = means (dep_pair be_u32 asked)
-layout backend.BackendKeyData = means raw_key_data
+layout backend.BackendKeyData = means backend_key
 layout backend.BindComplete = means nothing
 layout backend.CloseComplete = means nothing
 layout backend.CommandComplete = means until_nul

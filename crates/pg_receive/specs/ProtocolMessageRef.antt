@@ -3,11 +3,11 @@ use Rattle.std.specs.Prelude.{◌≡◌, ◌≢◌, ℕ, List, Option, Result, O
 use Rattle.pg_base.specs.declared.error.ProtocolFault.{ProtocolFault}
 use Rattle.pg_base.specs.declared.format.BackendMessageFormat.{BackendMessageFormat}
 use Rattle.pg_base.specs.declared.format.BackendMessageFormat.TheVariants as formats
-use Rattle.pg_format.specs.Messages.{copy_response, function_call_response, negotiate_protocol_version}
+use Rattle.pg_format.specs.Messages.{copy_response, function_call_response, negotiate_protocol_version, backend_key}
 use Rattle.pg_format.specs.declared.protocol.ProtocolMessageKind.{ProtocolMessageKind}
 use Rattle.pg_format.specs.declared.protocol.ProtocolMessageKind.TheVariants as kinds
 use Rattle.pg_receive.specs.Authentication.Any.{any_requests, any_borrowed}
-use Rattle.pg_receive.specs.BackendKeyData.{raw_key_data, raw_key}
+use Rattle.pg_receive.specs.BackendKeyData.{raw_key}
 use Rattle.pg_receive.specs.CopyResponseRef.{response_borrowed}
 use Rattle.pg_receive.specs.NegotiateProtocolVersion.{negotiation_borrowed}
 use Rattle.pg_receive.specs.ServerMessage.{Borrows, Reads}
@@ -28,7 +28,7 @@ pub record IsBorrowed (format : BackendMessageFormat) (body : List ℕ) (result 
 -- of the kinds that sqlx-postgres knows two say more here: a request of any method, and a key of up to 256 bytes
 pub record ReadsKnown (format : BackendMessageFormat) (body : List ℕ) (result : Answer) : Type 0 where
   pub request : format ≡ formats.Authentication → Reads messages.Authentication any_requests any_borrowed body result
-  pub key : format ≡ formats.BackendKeyData → Reads messages.BackendKeyData raw_key_data raw_key body result
+  pub key : format ≡ formats.BackendKeyData → Reads messages.BackendKeyData backend_key raw_key body result
   pub other : format ≢ formats.Authentication → format ≢ formats.BackendKeyData → IsBorrowed format body result
 
 abbrev pub result_borrowed : FunctionCallResponseRef → Option (List ℕ)

@@ -1,8 +1,7 @@
 -- What a C program reads of a notification, a setting, a key, a command and a status.
 use Rattle.std.specs.Prelude.{◌≡◌, ℕ, ℤ, pos, List, Some}
 use Rattle.pg_format.specs.Format.{Means}
-use Rattle.pg_format.specs.Messages.{Cancel, Notification, notification, Setting, Status, status_letter, ready_for_query}
-use Rattle.pg_receive.specs.BackendKeyData.{raw_key_data}
+use Rattle.pg_format.specs.Messages.{Cancel, Notification, notification, Setting, Status, status_letter, ready_for_query, backend_key}
 use Rattle.pg_receive.specs.CommandComplete.{row_count, tag_text}
 use Rattle.pg_receive.specs.ParameterStatus.{raw_parameter_status}
 use Rattle.pg_c.specs.Place.{part}
@@ -29,7 +28,7 @@ pub record ReadsSetting (body : List ℕ) (status : PgmsgParameterStatus) : Type
 -- the body means a session with a key, and this is it
 pub record ReadsKey (body : List ℕ) (read : PgmsgKeyData) : Type 0 where
   pub key : Cancel
-  pub means : Means raw_key_data body key
+  pub means : Means backend_key body key
   pub process_id : read.process_id ≡ key.process_id
   pub secret_key : part body read.secret_key ≡ Some key.secret_key
 

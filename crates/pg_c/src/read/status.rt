@@ -2,7 +2,7 @@
 
 ghost use Rattle.std.specs.Prelude.{◌≡◌, ◌≤ℤ◌, pos};
 ghost use Rattle.pg_format.specs.Messages as page;
-ghost use Rattle.pg_receive.specs.BackendKeyData.{raw_key_data, raw_key};
+ghost use Rattle.pg_receive.specs.BackendKeyData.{raw_key};
 ghost use Rattle.pg_receive.specs.CommandComplete.{tag_text};
 ghost use Rattle.pg_receive.specs.Notification.{notification_borrowed};
 ghost use Rattle.pg_receive.specs.ParameterStatus.{raw_parameter_status, raw_setting};
@@ -146,7 +146,7 @@ pub extern "C" fn pgmsg_read_key_data(
 ) -> i32
     ensures result { result ≤ℤ pos 0 }
     ensures value { result ≡ pos 0 → ReadsKey body.now key.new }
-    ensures fault { RefusesBody raw_key_data body.now fault.old fault.new result }
+    ensures fault { RefusesBody page.backend_key body.now fault.old fault.new result }
     ensures left { LeavesRest body.now fault.old fault.new key.old key.new result }
 {
     match key_of(body) {
@@ -165,7 +165,7 @@ pub extern "C" fn pgmsg_read_key_data(
 }
 
 fn key_of(body: &[u8]) -> Result<RawKeyData<'_>, ProtocolFault>
-    ensures { ReadsBody raw_key_data raw_key body.now result }
+    ensures { ReadsBody page.backend_key raw_key body.now result }
 {
     check_body(body)?;
     RawKeyData::read(body)

@@ -2,8 +2,8 @@
 
 ghost use Rattle.pg_base.specs.declared.format.BackendMessageFormat.TheVariants as formats;
 ghost use Rattle.pg_format.specs.Format.{ReadsAs};
-ghost use Rattle.pg_format.specs.Messages.{backend_key_data};
-ghost use Rattle.pg_receive.specs.BackendKeyData.{key_shown, raw_key_data, raw_key};
+ghost use Rattle.pg_format.specs.Messages.{backend_key_data, backend_key};
+ghost use Rattle.pg_receive.specs.BackendKeyData.{key_shown, raw_key};
 
 use crate::message::BackendMessage;
 use bytes::Bytes;
@@ -80,7 +80,7 @@ impl<'a> RawKeyData<'a> {
     /// Reads a body. Refused with `Short` where it has fewer than four bytes, and with
     /// `BadKeyLength` where the secret has fewer than 4 or more than 256.
     pub fn read(body: &'a [u8]) -> Result<RawKeyData<'a>, ProtocolFault>
-        ensures { ReadsAs raw_key_data raw_key body.now result }
+        ensures { ReadsAs backend_key raw_key body.now result }
     {
         let process_id = u32_at(body, 0)?;
         let secret_key = &body[PROCESS_LENGTH..];

@@ -8,16 +8,15 @@ use Rattle.pg_format.specs.Format.{Format, Lawful}
 use Rattle.pg_format.specs.Format.Lists.{until_zero}
 use Rattle.pg_format.specs.Format.Parts.{be_i8, be_i16, one_of}
 use Rattle.pg_format.specs.Format.Sequences.{dep_pair, ◌⨾◌}
-use Rattle.pg_format.specs.Messages.{columns_of, column_codes, field, Status, idle, transaction, error, status_of, status_letter, key_fault}
+use Rattle.pg_format.specs.Messages.{columns_of, column_codes, field, Status, idle, transaction, error, status_of, status_letter}
 use Rattle.pg_format.specs.Notices.{Field}
 use Rattle.pg_format.proofs.FormatLaws.Parts.{lawful_until_nul, lawful_unsigned, lawful_signed, lawful_bytes_of, lawful_remaining, lawful_one_of, lawful_success}
-use Rattle.pg_format.proofs.FormatLaws.FromServer.{u32, i16}
+use Rattle.pg_format.proofs.FormatLaws.FromServer.{u32, i16, lawful_backend_key}
 use Rattle.pg_format.proofs.FormatLaws.Lists.{lawful_times, lawful_counted_least, lawful_until_zero, times_take}
 use Rattle.pg_format.proofs.FormatLaws.Nullable.{lawful_cell}
-use Rattle.pg_format.proofs.FormatLaws.Sequences.{◌l⨾◌, lawful_dep_pair, lawful_record_of, lawful_viewed, lawful_choose}
+use Rattle.pg_format.proofs.FormatLaws.Sequences.{◌l⨾◌, lawful_dep_pair, lawful_viewed, lawful_choose}
 use Rattle.pg_format.proofs.FormatLaws.Takes.{takes_unsigned, takes_signed, takes_cell}
-use Rattle.pg_format.proofs.FormatLaws.Tests.{lawful_checked, lawful_only, lawful_with_room}
-use Rattle.pg_receive.specs.BackendKeyData.{raw_key_data}
+use Rattle.pg_format.proofs.FormatLaws.Tests.{lawful_only, lawful_with_room}
 use Rattle.pg_receive.specs.Layout.{name, alone, asked, is_alone, layout}
 use Rattle.pg_receive.proofs.RowDescriptionRawLemmas.{lawful_raw_column, raw_column_takes}
 use Rattle.pg_receive.proofs.laws.layouts_are_lawful.Goals as goal
@@ -56,9 +55,6 @@ lawful_asked method =
     (lawful_choose (method == 10) lawful_names
     (lawful_viewed alone lawful_remaining)))
 
-lawful_key : Lawful raw_key_data
-lawful_key = lawful_record_of _ (λ a b e i. record { process_id = (e i).0; secret_key = (e i).1 }) (u32 l⨾ lawful_checked (λ key. key_fault (length key)) lawful_remaining)
-
 lawful_codes : Lawful (be_i8 ⨾ dep_pair be_i16 column_codes)
 lawful_codes =
     lawful_signed 1 tt
@@ -74,7 +70,7 @@ lawful_status = lawful_one_of status_of status_letter UnknownStatus status_again
 
 lawful_layout : (kind : BackendMessageFormat) → Lawful (layout kind).format
 lawful_layout backend.Authentication = lawful_dep_pair asked u32 lawful_asked
-lawful_layout backend.BackendKeyData = lawful_key
+lawful_layout backend.BackendKeyData = lawful_backend_key
 lawful_layout backend.BindComplete = lawful_success tt
 lawful_layout backend.CloseComplete = lawful_success tt
 lawful_layout backend.CommandComplete = lawful_until_nul

@@ -5,8 +5,7 @@ ghost use Rattle.pg_format.specs.Format.{IsFaultOf};
 ghost use Rattle.pg_format.specs.Format.Lists.{counted_least};
 ghost use Rattle.pg_format.specs.Format.Parts.{until_nul, be_u32, be_i8, be_i16, remaining};
 ghost use Rattle.pg_format.specs.Format.Sequences.{dep_pair, ◌⨾◌};
-ghost use Rattle.pg_format.specs.Messages.{column_codes};
-ghost use Rattle.pg_receive.specs.BackendKeyData.{raw_key_data};
+ghost use Rattle.pg_format.specs.Messages.{column_codes, backend_key};
 ghost use Rattle.pg_format.specs.Format.Places.{EndsAt};
 ghost use Rattle.pg_receive.specs.Layout.{asked, is_alone, status};
 
@@ -68,8 +67,8 @@ fn is_alone(method: u32) -> bool
 
 /// The end of a session's process and its key.
 pub(super) fn key_end(body: &[u8]) -> Result<usize, ProtocolFault>
-    ensures end { IfOk result (EndsAt raw_key_data body.now 0) }
-    ensures fault { IfErr result (IsFaultOf raw_key_data body.now) }
+    ensures end { IfOk result (EndsAt backend_key body.now 0) }
+    ensures fault { IfErr result (IsFaultOf backend_key body.now) }
 {
     RawKeyData::read(body)?;
     Ok(body.len())
