@@ -7,9 +7,10 @@ ghost use Rattle.pg_format.specs.declared.replication.ReplicationKind.TheVariant
 ghost use Rattle.pg_server.specs.Backend.Message.{Replication};
 ghost use Rattle.pg_replication.specs.ReplicationMessage.{shown_new_archive, shown_manifest, shown_backup_data, shown_progress};
 
-use pg_base::ProtocolFault;
 use pg_base::io::MAX_BODY;
 use pg_base::io::part::{Byte, NoBytes, Number64, Slice, Then};
+use pg_base::{FrontendMessageFormat, ProtocolFault};
+use pg_format::ReplicationKind;
 use pg_format::field::fields_from;
 use pg_server::backend::{NulEnded, OutboundMessage};
 
@@ -43,13 +44,13 @@ impl<'a> OutboundMessage for NewArchive<'a> {
     ghost message = { λ it. Replication kinds.NewArchive (shown_new_archive it) };
 
     fn tag(&self) -> u8 {
-        b'd'
+        FrontendMessageFormat::CopyData as u8
     }
 
     #[inline(always)]
     fn parts(&self) -> Self::Body {
         Then(
-            Byte(b'n'),
+            Byte(ReplicationKind::NewArchive as u8),
             Then(NulEnded(self.name), NulEnded(self.location)),
         )
     }
@@ -77,12 +78,12 @@ impl OutboundMessage for Manifest {
     ghost message = { λ it. Replication kinds.Manifest (shown_manifest it) };
 
     fn tag(&self) -> u8 {
-        b'd'
+        FrontendMessageFormat::CopyData as u8
     }
 
     #[inline(always)]
     fn parts(&self) -> Self::Body {
-        Then(Byte(b'm'), NoBytes)
+        Then(Byte(ReplicationKind::Manifest as u8), NoBytes)
     }
 }
 
@@ -112,12 +113,12 @@ impl<'a> OutboundMessage for BackupData<'a> {
     ghost message = { λ it. Replication kinds.BackupData (shown_backup_data it) };
 
     fn tag(&self) -> u8 {
-        b'd'
+        FrontendMessageFormat::CopyData as u8
     }
 
     #[inline(always)]
     fn parts(&self) -> Self::Body {
-        Then(Byte(b'd'), Slice(self.content))
+        Then(Byte(ReplicationKind::BackupData as u8), Slice(self.content))
     }
 }
 
@@ -146,11 +147,14 @@ impl OutboundMessage for Progress {
     ghost message = { λ it. Replication kinds.Progress (shown_progress it) };
 
     fn tag(&self) -> u8 {
-        b'd'
+        FrontendMessageFormat::CopyData as u8
     }
 
     #[inline(always)]
     fn parts(&self) -> Self::Body {
-        Then(Byte(b'p'), Number64(self.processed))
+        Then(
+            Byte(ReplicationKind::Progress as u8),
+            Number64(self.processed),
+        )
     }
 }

@@ -7,9 +7,10 @@ ghost use Rattle.pg_format.specs.declared.replication.ReplicationKind.TheVariant
 ghost use Rattle.pg_server.specs.Backend.Message.{Replication};
 ghost use Rattle.pg_replication.specs.ReplicationMessage.{shown_xlog_data, shown_keepalive, shown_status_update, shown_feedback};
 
-use pg_base::ProtocolFault;
 use pg_base::io::MAX_BODY;
 use pg_base::io::part::{Byte, Number32, Number64, Slice, Then};
+use pg_base::{FrontendMessageFormat, ProtocolFault};
+use pg_format::ReplicationKind;
 use pg_format::field::{Flag, Signed64, fields_from};
 use pg_server::backend::OutboundMessage;
 
@@ -52,13 +53,13 @@ impl<'a> OutboundMessage for XLogData<'a> {
     ghost message = { λ it. Replication kinds.XLogData (shown_xlog_data it) };
 
     fn tag(&self) -> u8 {
-        b'd'
+        FrontendMessageFormat::CopyData as u8
     }
 
     #[inline(always)]
     fn parts(&self) -> Self::Body {
         Then(
-            Byte(b'w'),
+            Byte(ReplicationKind::XLogData as u8),
             Then(
                 Number64(self.start),
                 Then(
@@ -108,13 +109,13 @@ impl OutboundMessage for PrimaryKeepalive {
     ghost message = { λ it. Replication kinds.PrimaryKeepalive (shown_keepalive it) };
 
     fn tag(&self) -> u8 {
-        b'd'
+        FrontendMessageFormat::CopyData as u8
     }
 
     #[inline(always)]
     fn parts(&self) -> Self::Body {
         Then(
-            Byte(b'k'),
+            Byte(ReplicationKind::PrimaryKeepalive as u8),
             Then(
                 Number64(self.end),
                 Then(Signed64(self.clock), Flag(self.wants_reply)),
@@ -173,13 +174,13 @@ impl OutboundMessage for StandbyStatusUpdate {
     ghost message = { λ it. Replication kinds.StandbyStatusUpdate (shown_status_update it) };
 
     fn tag(&self) -> u8 {
-        b'd'
+        FrontendMessageFormat::CopyData as u8
     }
 
     #[inline(always)]
     fn parts(&self) -> Self::Body {
         Then(
-            Byte(b'r'),
+            Byte(ReplicationKind::StandbyStatusUpdate as u8),
             Then(
                 Number64(self.written),
                 Then(
@@ -248,13 +249,13 @@ impl OutboundMessage for HotStandbyFeedback {
     ghost message = { λ it. Replication kinds.HotStandbyFeedback (shown_feedback it) };
 
     fn tag(&self) -> u8 {
-        b'd'
+        FrontendMessageFormat::CopyData as u8
     }
 
     #[inline(always)]
     fn parts(&self) -> Self::Body {
         Then(
-            Byte(b'h'),
+            Byte(ReplicationKind::HotStandbyFeedback as u8),
             Then(
                 Signed64(self.clock),
                 Then(

@@ -5,7 +5,9 @@ ghost use Rattle.pg_replication.specs.Logical.XLogMessage.{piece_of};
 ghost use Rattle.pg_replication.specs.Logical.Encode.{content_part};
 
 use crate::logical::LogicalMessage;
+use pg_base::FrontendMessageFormat;
 use pg_base::io::part::{Byte, Number64, Then};
+use pg_format::ReplicationKind;
 use pg_format::field::Signed64;
 use pg_server::backend::OutboundMessage;
 
@@ -29,13 +31,13 @@ impl<'a> OutboundMessage for XLogMessage<'a> {
     ghost message = { λ it. XLogContent (piece_of it) (content_part it.message).fault };
 
     fn tag(&self) -> u8 {
-        b'd'
+        FrontendMessageFormat::CopyData as u8
     }
 
     #[inline(always)]
     fn parts(&self) -> Self::Body {
         let content = Then(Signed64(self.clock), self.message);
         let piece = Then(Number64(self.start), Then(Number64(self.end), content));
-        Then(Byte(b'w'), piece)
+        Then(Byte(ReplicationKind::XLogData as u8), piece)
     }
 }
