@@ -1,9 +1,10 @@
 -- Where the message at the front of a client's stream is, and how many bytes it needs.
-use Rattle.std.proofs.Common.{inl, inr, ◌≡◌, ℕ, ◌+◌, pos, Some, List, ◌++◌, length, drop, get_or, refl, ◌∙◌, arith, append_assoc, length-append}
+use Rattle.std.proofs.Common.{inl, inr, ◌≡◌, ℕ, ◌+◌, pos, Some, List, ◌++◌, length, drop, get_or, refl, sym, subst, ◌∙◌, arith, append_assoc, length-append}
 use Rattle.std.proofs.lemmas.List.{drop_at}
 use Rattle.pg_base.specs.Cutting.{Begins}
 use Rattle.pg_base.specs.Format.{frontend_tag}
 use Rattle.pg_base.specs.declared.format.FrontendMessageFormat.{FrontendMessageFormat}
+use Rattle.pg_frames.specs.Framing.{Announces}
 use Rattle.pg_frames.specs.Frontend.Frame.{BeginsFirst, BeginsTagged, StandsFirst, WantsMoreTagged}
 use Rattle.pg_frames.specs.declared.frontend.frame.Expects.{Expects}
 use Rattle.pg_frames.specs.declared.frontend.message.ClientMessageKind.{ClientMessageKind}
@@ -12,7 +13,7 @@ use Rattle.pg_c.specs.Client.Frames.{Needs}
 use Rattle.pg_c.specs.Place.{bytes_in}
 use Rattle.pg_c.specs.Read.Frame as read
 use Rattle.pg_c.proofs.PlaceLemmas.{bytes_are}
-use Rattle.pg_frames.proofs.StreamLemmas.{one_announced, announces_fits}
+use Rattle.pg_frames.proofs.FramingLemmas.{one_announced, announces_fits}
 
 -- ---- a first message
 
@@ -41,6 +42,6 @@ pub needs_tagged : (bytes : List ℕ) (needed : ℕ) → WantsMoreTagged bytes �
 needs_tagged bytes needed wants (inl header) = inl header
 needs_tagged bytes needed (inl short) (inr b) = absurd (omega (arith, short, announces_fits bytes b.tag (pos b.announced) b.announces))
 needs_tagged bytes needed (inr g) (inr b) =
-    let same : pos b.announced ≡ pos g.announced = (one_announced bytes b.tag (frontend_tag g.format) (pos b.announced) (pos g.announced) b.announces g.announces).1 in
+    let same : pos b.announced ≡ pos g.announced = (one_announced bytes b.tag g.tag (pos b.announced) (pos g.announced) b.announces g.announces).1 in
     let count : b.announced ≡ g.announced = cc same in
-    inr (record { format = g.format; announced = g.announced; announces = g.announces; least = g.least; short = g.short; all = omega (arith, b.all, count) })
+    inr (record { format = g.known.0; announced = g.announced; announces = subst (λ (tag : ℕ). Announces bytes tag (pos g.announced)) (sym g.known.1) g.announces; least = g.least; short = g.short; all = omega (arith, b.all, count) })

@@ -8,14 +8,16 @@ use Rattle.pg_base.specs.Reading.{Number}
 use Rattle.pg_base.specs.declared.format.FrontendMessageFormat.{FrontendMessageFormat}
 use Rattle.pg_base.proofs.CuttingLemmas.{parts_at, one_first}
 use Rattle.pg_base.proofs.ReadingLemmas.{one_number, one_signed, signed_fits}
-use Rattle.pg_frames.proofs.StreamLemmas.{one_announced, begins_announces, begins_fits, announces_fits, announces_stays, signed_stays}
+use Rattle.pg_frames.specs.Framing as streams
+use Rattle.pg_frames.proofs.FramingLemmas as tagged
+use Rattle.pg_frames.proofs.FramingLemmas.{signed_stays}
 use Rattle.pg_server.specs.declared.frontend.error.FrontendFault.{FrontendFault}
-use Rattle.pg_server.specs.declared.frontend.error.FrontendFault.TheVariants.{UnknownTag, BadLength, FirstTooLong}
+use Rattle.pg_server.specs.declared.frontend.error.FrontendFault.TheVariants.{BadLength, FirstTooLong}
 use Rattle.pg_frames.specs.declared.frontend.frame.Expects.{Expects}
 use Rattle.pg_frames.specs.declared.frontend.frame.Expects.TheVariants as expects
 use Rattle.pg_frames.specs.declared.frontend.message.ClientMessageKind.{ClientMessageKind}
 use Rattle.pg_frames.specs.declared.frontend.message.ClientMessageKind.TheVariants as kinds
-use Rattle.pg_frames.specs.Frontend.Frame.{AsksForEncryption, Follows, StandsFirst, BeginsWith, Whole, AnnouncesFirst, WantsMoreFirst, WantsMoreTagged, WantsMore, IsFirstFault, IsTaggedFault, IsStreamFault}
+use Rattle.pg_frames.specs.Frontend.Frame.{AsksForEncryption, Follows, StandsFirst, BeginsWith, Whole, AnnouncesFirst, WantsMoreFirst, of_client, WantsMore, IsFirstFault, IsStreamFault}
 
 -- kinds with one tag are one kind
 pub one_tag : (a b : FrontendMessageFormat) → frontend_tag a ≡ frontend_tag b → a ≡ b
@@ -78,49 +80,22 @@ one_first_fault limit bytes f g (inr p) (inr q) =
     let same : p.announced ≡ q.announced = cc in
     p.is ∙ ap (λ (n : ℕ). FirstTooLong n limit) same ∙ sym q.is
 
--- messages with a tag
-tagged_wants_none : (bytes : List ℕ) (format : FrontendMessageFormat) (body rest : List ℕ) → Begins bytes (frontend_tag format) body rest → WantsMoreTagged bytes → ⊥
-tagged_wants_none bytes format body rest p (inl short) = omega (arith, short, begins_fits bytes (frontend_tag format) body rest p)
-tagged_wants_none bytes format body rest p (inr on) =
-    let one = one_announced bytes (frontend_tag format) (frontend_tag on.format) (pos (4 + length body)) (pos on.announced) (begins_announces bytes (frontend_tag format) body rest p) on.announces in
-    let counts : pos (4 + length body) ≡ pos on.announced = one.1 in
-    let same : 4 + length body ≡ on.announced = cc in
-    omega (arith, same, on.short, begins_fits bytes (frontend_tag format) body rest p)
-
-tagged_fault_not_whole : (bytes : List ℕ) (fault : FrontendFault) → IsTaggedFault bytes fault → (format : FrontendMessageFormat) (body rest : List ℕ) → Begins bytes (frontend_tag format) body rest → ⊥
-tagged_fault_not_whole bytes fault (inl f) format body rest p =
-    f.unknown format (one_announced bytes (frontend_tag format) f.tag (pos (4 + length body)) f.announced (begins_announces bytes (frontend_tag format) body rest p) f.announces).0
-tagged_fault_not_whole bytes fault (inr f) format body rest p =
-    let one = one_announced bytes (frontend_tag format) (frontend_tag f.format) (pos (4 + length body)) f.announced (begins_announces bytes (frontend_tag format) body rest p) f.announces in
-    omega (arith, ints, one.1, f.low)
-
-tagged_fault_wants_none : (bytes : List ℕ) (fault : FrontendFault) → IsTaggedFault bytes fault → WantsMoreTagged bytes → ⊥
-tagged_fault_wants_none bytes fault (inl f) (inl short) = omega (arith, short, announces_fits bytes f.tag f.announced f.announces)
-tagged_fault_wants_none bytes fault (inr f) (inl short) = omega (arith, short, announces_fits bytes (frontend_tag f.format) f.announced f.announces)
-tagged_fault_wants_none bytes fault (inl f) (inr on) =
-    f.unknown on.format (one_announced bytes (frontend_tag on.format) f.tag (pos on.announced) f.announced on.announces f.announces).0
-tagged_fault_wants_none bytes fault (inr f) (inr on) =
-    let one = one_announced bytes (frontend_tag on.format) (frontend_tag f.format) (pos on.announced) f.announced on.announces f.announces in
-    omega (arith, ints, one.1, f.low, on.least)
-
-one_tagged_fault : (bytes : List ℕ) (f g : FrontendFault) → IsTaggedFault bytes f → IsTaggedFault bytes g → f ≡ g
-one_tagged_fault bytes f g (inl p) (inl q) = p.is ∙ ap UnknownTag (one_announced bytes p.tag q.tag p.announced q.announced p.announces q.announces).0 ∙ sym q.is
-one_tagged_fault bytes f g (inl p) (inr q) = absurd (p.unknown q.format (sym (one_announced bytes p.tag (frontend_tag q.format) p.announced q.announced p.announces q.announces).0))
-one_tagged_fault bytes f g (inr p) (inl q) = absurd (q.unknown p.format (one_announced bytes (frontend_tag p.format) q.tag p.announced q.announced p.announces q.announces).0)
-one_tagged_fault bytes f g (inr p) (inr q) = p.is ∙ ap BadLength (one_announced bytes (frontend_tag p.format) (frontend_tag q.format) p.announced q.announced p.announces q.announces).1 ∙ sym q.is
+-- a message with a tag is one that a client sends
+tagged_whole : (bytes : List ℕ) (format : FrontendMessageFormat) (body rest : List ℕ) → Begins bytes (frontend_tag format) body rest → streams.Whole of_client bytes
+tagged_whole bytes format body rest p = record { tag = frontend_tag format; body = body; rest = rest; known = (format, refl); begins = p }
 
 -- whichever is expected
 pub begins_wants_none : (limit : ℕ) (state : Expects) (bytes : List ℕ) (kind : ClientMessageKind) (body rest : List ℕ) (next : Expects) → BeginsWith limit state bytes kind body rest next → WantsMore limit state bytes → ⊥
 begins_wants_none limit expects.First bytes kinds.First body rest next p w = first_wants_none limit bytes body rest p.0 w
 begins_wants_none limit expects.First bytes (kinds.Tagged format) body rest next p w = p
 begins_wants_none limit expects.Tagged bytes kinds.First body rest next p w = p
-begins_wants_none limit expects.Tagged bytes (kinds.Tagged format) body rest next p w = tagged_wants_none bytes format body rest p.0 w
+begins_wants_none limit expects.Tagged bytes (kinds.Tagged format) body rest next p w = tagged.whole_wants_none of_client bytes (tagged_whole bytes format body rest p.0) w
 
 pub fault_not_begins : (limit : ℕ) (state : Expects) (bytes : List ℕ) (fault : FrontendFault) → IsStreamFault limit state bytes fault → (kind : ClientMessageKind) (body rest : List ℕ) (next : Expects) → BeginsWith limit state bytes kind body rest next → ⊥
 fault_not_begins limit expects.First bytes fault f kinds.First body rest next p = first_fault_not_whole limit bytes fault f body rest p.0
 fault_not_begins limit expects.First bytes fault f (kinds.Tagged format) body rest next p = p
 fault_not_begins limit expects.Tagged bytes fault f kinds.First body rest next p = p
-fault_not_begins limit expects.Tagged bytes fault f (kinds.Tagged format) body rest next p = tagged_fault_not_whole bytes fault f format body rest p.0
+fault_not_begins limit expects.Tagged bytes fault f (kinds.Tagged format) body rest next p = tagged.fault_not_whole of_client bytes fault f (tagged_whole bytes format body rest p.0)
 
 pub whole_wants_none : (limit : ℕ) (state : Expects) (bytes : List ℕ) → Whole limit state bytes → WantsMore limit state bytes → ⊥
 whole_wants_none limit state bytes p w = begins_wants_none limit state bytes p.kind p.body p.rest p.next p.begins w
@@ -130,11 +105,11 @@ fault_not_whole limit state bytes fault f p = fault_not_begins limit state bytes
 
 pub fault_wants_none : (limit : ℕ) (state : Expects) (bytes : List ℕ) (fault : FrontendFault) → IsStreamFault limit state bytes fault → WantsMore limit state bytes → ⊥
 fault_wants_none limit expects.First bytes fault f w = first_fault_wants_none limit bytes fault f w
-fault_wants_none limit expects.Tagged bytes fault f w = tagged_fault_wants_none bytes fault f w
+fault_wants_none limit expects.Tagged bytes fault f w = tagged.fault_wants_none of_client bytes fault f w
 
 pub one_fault : (limit : ℕ) (state : Expects) (bytes : List ℕ) (f g : FrontendFault) → IsStreamFault limit state bytes f → IsStreamFault limit state bytes g → f ≡ g
 one_fault limit expects.First bytes f g p q = one_first_fault limit bytes f g p q
-one_fault limit expects.Tagged bytes f g p q = one_tagged_fault bytes f g p q
+one_fault limit expects.Tagged bytes f g p q = tagged.one_fault of_client bytes f g p q
 
 -- a body is followed by one of both
 one_next : (body : List ℕ) (a b : Expects) → Follows body a → Follows body b → a ≡ b
@@ -172,8 +147,7 @@ first_announces_stays bytes more announced p = record { rest = p.rest ++ more; c
 pub fault_stays : (limit : ℕ) (state : Expects) (bytes more : List ℕ) (fault : FrontendFault) → IsStreamFault limit state bytes fault → IsStreamFault limit state (bytes ++ more) fault
 fault_stays limit expects.First bytes more fault (inl f) = inl (record { announced = f.announced; announces = first_announces_stays bytes more f.announced f.announces; low = f.low; is = f.is })
 fault_stays limit expects.First bytes more fault (inr f) = inr (record { announced = f.announced; announces = first_announces_stays bytes more (pos f.announced) f.announces; least = f.least; high = f.high; is = f.is })
-fault_stays limit expects.Tagged bytes more fault (inl f) = inl (record { tag = f.tag; announced = f.announced; announces = announces_stays bytes more f.tag f.announced f.announces; unknown = f.unknown; is = f.is })
-fault_stays limit expects.Tagged bytes more fault (inr f) = inr (record { format = f.format; announced = f.announced; announces = announces_stays bytes more (frontend_tag f.format) f.announced f.announces; low = f.low; is = f.is })
+fault_stays limit expects.Tagged bytes more fault f = tagged.fault_stays of_client bytes more fault f
 
 -- a code that is neither asks for no encryption
 pub asks_for_none : (body : List ℕ) (code : ℕ) (rest : List ℕ) → Number 4 body code rest → code ≢ 80877103 → code ≢ 80877104 → AsksForEncryption body → ⊥

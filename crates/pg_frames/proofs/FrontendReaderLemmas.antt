@@ -4,7 +4,8 @@ use Rattle.std.specs.Result.{MatchResult}
 use Rattle.std.proofs.lemmas.List.{drop-take}
 use Rattle.std.proofs.Math.Seq.{drop-append-add, drop-append_seam, take-append_seam}
 use Rattle.pg_base.specs.Format.{frontend_tag}
-use Rattle.pg_frames.proofs.StreamLemmas.{begins_fits, taken}
+use Rattle.pg_frames.proofs.FramingLemmas.{begins_fits}
+use Rattle.pg_frames.proofs.StreamLemmas.{taken}
 use Rattle.pg_server.specs.declared.frontend.error.FrontendFault.{FrontendFault}
 use Rattle.pg_frames.specs.declared.frontend.error.FrontendError.{FrontendError}
 use Rattle.pg_frames.specs.declared.frontend.error.FrontendError.TheVariants.{Protocol, OutOfMemory}

@@ -1,9 +1,9 @@
+pub mod FramingLemmas
 pub mod FrontendFrameLemmas
 pub mod FrontendPiecesLemmas
 pub mod FrontendReaderLemmas
 pub mod PiecesLemmas
 pub mod ProtocolFrameLemmas
-pub mod RawFrameLemmas
 pub mod RelayHeadLemmas
 pub mod RelayKeepsLemmas
 pub mod RelayLemmas

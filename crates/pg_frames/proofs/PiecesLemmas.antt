@@ -11,8 +11,8 @@ use Rattle.pg_format.specs.declared.received.ReceivedMessage.{ReceivedMessage}
 use Rattle.pg_frames.specs.declared.pieces.StreamEnd.{StreamEnd}
 use Rattle.pg_frames.specs.declared.pieces.StreamEnd.TheVariants.{Rest, Fault}
 use Rattle.pg_frames.specs.Pieces.{joined, tags_and_bodies, IsEnd, IsRead}
-use Rattle.pg_frames.specs.Stream.{AreKnown, Stream, Whole, IsStreamFault}
-use Rattle.pg_frames.proofs.StreamLemmas.{whole_wants_none, fault_not_whole, fault_wants_none, one_fault, fault_stays}
+use Rattle.pg_frames.specs.Stream.{AreKnown, Stream, of_server, Whole, IsStreamFault}
+use Rattle.pg_frames.proofs.FramingLemmas.{whole_wants_none, fault_not_whole, fault_wants_none, one_fault, fault_stays}
 
 -- more bytes at the end are more of the rest
 pub begins_more : (bytes more : List ℕ) (tag : ℕ) (body rest : List ℕ) → Begins bytes tag body rest → Begins (bytes ++ more) tag body (rest ++ more)
@@ -123,19 +123,19 @@ read_to_fault pieces i xs r fault p f =
     record {
       rest = r ++ joined (drop i pieces);
       stream = rw all (stream_more (joined (take i pieces)) (joined (drop i pieces)) xs r p);
-      ends = fault_stays r (joined (drop i pieces)) fault f;
+      ends = fault_stays of_server r (joined (drop i pieces)) fault f;
     }
 
 -- what is left at an end is no whole message
 end_not_whole : (rest : List ℕ) (end : StreamEnd) → IsEnd rest end → Whole rest → ⊥
-end_not_whole rest (Rest count) p w = whole_wants_none rest w p.1
-end_not_whole rest (Fault fault) p w = fault_not_whole rest fault p w
+end_not_whole rest (Rest count) p w = whole_wants_none of_server rest w p.1
+end_not_whole rest (Fault fault) p w = fault_not_whole of_server rest fault p w
 
 one_end : (rest : List ℕ) (d e : StreamEnd) → IsEnd rest d → IsEnd rest e → d ≡ e
 one_end rest (Rest m) (Rest n) p q = ap Rest (p.0 ∙ sym q.0)
-one_end rest (Rest m) (Fault g) p q = absurd (fault_wants_none rest g q p.1)
-one_end rest (Fault f) (Rest n) p q = absurd (fault_wants_none rest f p q.1)
-one_end rest (Fault f) (Fault g) p q = ap Fault (one_fault rest f g p q)
+one_end rest (Rest m) (Fault g) p q = absurd (fault_wants_none of_server rest g q p.1)
+one_end rest (Fault f) (Rest n) p q = absurd (fault_wants_none of_server rest f p q.1)
+one_end rest (Fault f) (Fault g) p q = ap Fault (one_fault of_server rest f g p q)
 
 pub one_read : (bytes : List ℕ) (xs ys : List (ℕ × List ℕ)) (d e : StreamEnd) → IsRead bytes xs d → IsRead bytes ys e → (xs ≡ ys) × (d ≡ e)
 one_read bytes xs ys d e p q =

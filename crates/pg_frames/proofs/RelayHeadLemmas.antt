@@ -6,7 +6,7 @@ use Rattle.std.proofs.Math.Seq.{take-append_seam}
 use Rattle.pg_base.specs.Reading.{Signed}
 use Rattle.pg_base.proofs.ReadingLemmas.{signed_fits}
 use Rattle.pg_frames.specs.Stream.{Announces}
-use Rattle.pg_frames.proofs.StreamLemmas.{one_announced, announces_fits, announces_stays}
+use Rattle.pg_frames.proofs.FramingLemmas.{one_announced, announces_fits, announces_stays}
 use Rattle.pg_frames.proofs.FrontendFrameLemmas.{one_length, first_announces_stays}
 use Rattle.pg_frames.specs.Frontend.Frame.{AnnouncesFirst}
 use Rattle.pg_frames.specs.declared.frontend.frame.Expects.{Expects}

@@ -1,4 +1,5 @@
 pub mod Frame
+pub mod Framing
 pub mod Frontend
 pub mod Laws
 pub mod Pieces

@@ -3,7 +3,7 @@
 ghost use Rattle.std.specs.Prelude.{◌<◌, ◌≤ℤ◌, pos, length, drop, IfSome, IfNone};
 ghost use Rattle.pg_base.specs.Cutting.{Begins};
 ghost use Rattle.pg_base.specs.Reading.{Signed};
-ghost use Rattle.pg_frames.specs.Stream.{Announces, IsPart};
+ghost use Rattle.pg_frames.specs.Framing.{Announces, IsPart};
 
 use pg_base::io::i32_at;
 

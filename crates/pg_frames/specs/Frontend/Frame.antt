@@ -1,12 +1,13 @@
 -- A stream of messages from a client, of which any front may have come: first messages, which have no tag, and
 -- then messages with one. Documentation: "Messaging Overview", "Start-up", "SSL Session Encryption".
-use Rattle.std.specs.Prelude.{◌≡◌, ◌≢◌, ◌+◌, ◌<◌, ◌≤◌, ◌⊎◌, ℕ, ℤ, pos, ◌<ℤ◌, List, ◌++◌, length}
+use Rattle.std.specs.Prelude.{◌≡◌, ◌+◌, ◌<◌, ◌≤◌, ◌⊎◌, ℕ, ℤ, pos, ◌<ℤ◌, List, ◌++◌, length}
 use Rattle.pg_base.specs.Cutting.{Begins}
 use Rattle.pg_base.specs.Format.{frontend_tag}
 use Rattle.pg_base.specs.Numbers.{int}
 use Rattle.pg_base.specs.Reading.{Number, Signed}
 use Rattle.pg_base.specs.declared.format.FrontendMessageFormat.{FrontendMessageFormat}
-use Rattle.pg_frames.specs.Stream.{Announces}
+use Rattle.pg_frames.specs.Framing as streams
+use Rattle.pg_frames.specs.Framing.{Framing}
 use Rattle.pg_server.specs.declared.frontend.error.FrontendFault.{FrontendFault}
 use Rattle.pg_server.specs.declared.frontend.error.FrontendFault.TheVariants.{UnknownTag, BadLength, FirstTooLong}
 use Rattle.pg_frames.specs.declared.frontend.frame.Expects.{Expects}
@@ -80,16 +81,16 @@ pub record FirstGoesOn (limit : ℕ) (bytes : List ℕ) : Type 0 where
 abbrev pub WantsMoreFirst : ℕ → List ℕ → Type 0
 WantsMoreFirst limit bytes = (length bytes < 4) ⊎ FirstGoesOn limit bytes
 
--- the message with a tag goes on after them
-pub record TaggedGoesOn (bytes : List ℕ) : Type 0 where
-  pub format : FrontendMessageFormat
-  pub announced : ℕ
-  pub announces : Announces bytes (frontend_tag format) (pos announced)
-  pub least : 4 ≤ announced
-  pub short : length bytes < 1 + announced
+-- some message from a client begins with this byte
+abbrev pub IsFrontendTag : ℕ → Type 0
+IsFrontendTag tag = (format : FrontendMessageFormat) × (frontend_tag format ≡ tag)
+
+-- the tags of a client's messages
+abbrev pub of_client : Framing FrontendFault
+of_client = record { Known = IsFrontendTag; unknown_tag = UnknownTag; bad_length = BadLength }
 
 abbrev pub WantsMoreTagged : List ℕ → Type 0
-WantsMoreTagged bytes = (length bytes < 5) ⊎ TaggedGoesOn bytes
+WantsMoreTagged bytes = streams.WantsMore of_client bytes
 
 -- more bytes are wanted: to know the message's tag and length, or all of its body
 abbrev pub WantsMore : ℕ → Expects → List ℕ → Type 0
@@ -114,24 +115,8 @@ pub record IsFirstTooLong (limit : ℕ) (bytes : List ℕ) (fault : FrontendFaul
 abbrev pub IsFirstFault : ℕ → List ℕ → FrontendFault → Type 0
 IsFirstFault limit bytes fault = IsFirstTooShort bytes fault ⊎ IsFirstTooLong limit bytes fault
 
--- no message from a client has this tag
-pub record HasUnknownTag (bytes : List ℕ) (fault : FrontendFault) : Type 0 where
-  pub tag : ℕ
-  pub announced : ℤ
-  pub announces : Announces bytes tag announced
-  pub unknown : (format : FrontendMessageFormat) → frontend_tag format ≢ tag
-  pub is : fault ≡ UnknownTag tag
-
--- the length after a tag doesn't even count itself
-pub record HasBadLength (bytes : List ℕ) (fault : FrontendFault) : Type 0 where
-  pub format : FrontendMessageFormat
-  pub announced : ℤ
-  pub announces : Announces bytes (frontend_tag format) announced
-  pub low : announced <ℤ pos 4
-  pub is : fault ≡ BadLength announced
-
 abbrev pub IsTaggedFault : List ℕ → FrontendFault → Type 0
-IsTaggedFault bytes fault = HasUnknownTag bytes fault ⊎ HasBadLength bytes fault
+IsTaggedFault bytes fault = streams.IsFault of_client bytes fault
 
 -- what is wrong with a stream at its front, whatever comes next
 abbrev pub IsStreamFault : ℕ → Expects → List ℕ → FrontendFault → Type 0

@@ -13,7 +13,7 @@ pub fn one_answer_is_due()
 {}
 
 /// A fault stays, whatever comes next.
-#[tactic(auto, using(crate::proofs::ProtocolFrameLemmas::fault_stays))]
+#[tactic(auto, using(crate::proofs::FramingLemmas::fault_stays))]
 pub fn a_fault_stays()
     ensures { FaultStays IsStreamFault (λ bytes more. bytes ++ more) }
 {}

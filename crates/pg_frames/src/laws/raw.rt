@@ -13,13 +13,13 @@ pub fn one_answer_is_due()
 {}
 
 /// A fault stays, whatever comes next.
-#[tactic(auto, using(crate::proofs::RawFrameLemmas::low_stays))]
+#[tactic(auto, using(crate::proofs::FramingLemmas::low_stays))]
 pub fn a_fault_stays()
     ensures { FaultStays HasBadLength (λ bytes more. bytes ++ more) }
 {}
 
 /// A whole message of the 24 kinds is one of any tag, and one of which more is wanted is too.
-#[tactic(auto, using(crate::proofs::RawFrameLemmas::known_whole, crate::proofs::RawFrameLemmas::known_wants))]
+#[tactic(auto, using(crate::proofs::ProtocolFrameLemmas::any_whole, crate::proofs::ProtocolFrameLemmas::any_wants))]
 pub fn the_24_kinds_are_among_them()
     ensures whole { (bytes : List ℕ) → known.Whole bytes → Whole bytes }
     ensures part { (bytes : List ℕ) → known.WantsMore bytes → WantsMore bytes }

@@ -3,7 +3,7 @@ use Rattle.std.specs.Prelude.{unsigned_abs}
 use Rattle.std.specs.Int.{w32}
 use Rattle.std.proofs.lemmas.Int.{to_z-of_z}
 use mir.Val.{SFits}
-use Rattle.pg_frames.proofs.StreamLemmas.{one_announced, announces_fits}
+use Rattle.pg_frames.proofs.FramingLemmas.{one_announced, announces_fits}
 use Rattle.pg_c.proofs.read.frame.needed.Goals as goal
 
 pub returns-in-Some : goal.returns-in-Some
