@@ -46,6 +46,7 @@ impl<'a> Eraser<'a> {
                 self.slice_read(self.at + 1);
                 self.at += 2;
             }
+            _ if self.is_run() => self.join_run()?,
             _ if self.is_word(0) && self.text(1) == "{" => {
                 self.struct_value(self.at);
                 self.at += 2;

@@ -25,10 +25,11 @@ impl<'a> Eraser<'a> {
         let exported = self.qualifiers()?;
         let signature = self.signature()?;
         self.heads(begin, signature.end)?;
-        self.contract(first, &signature)?;
+        let required = self.contract(first, &signature)?;
         if self.takes(";") {
             return Ok(());
         }
+        self.test_lengths(first, &required);
         self.formatter(&signature);
         if let Some(keyword) = exported {
             self.export(keyword, signature.parameters.clone(), self.at)?;
@@ -123,8 +124,12 @@ impl<'a> Eraser<'a> {
         self.kind_at(last) == Some(Kind::Word) && (is_after || ends_type(self.text_at(before)))
     }
 
-    // `requires {..}` and `ensures NAME {..}`, which go.
-    fn contract(&mut self, first: usize, signature: &Signature) -> Result<(), Refusal> {
+    // `requires {..}` and `ensures NAME {..}`, which go. What is required.
+    fn contract(
+        &mut self,
+        first: usize,
+        signature: &Signature,
+    ) -> Result<Vec<Range<usize>>, Refusal> {
         let begin = self.at;
         let mut required = Vec::new();
         while self.takes("requires") || self.takes("ensures") {
@@ -139,7 +144,7 @@ impl<'a> Eraser<'a> {
             self.say(inner);
         }
         if self.at == begin {
-            return Ok(());
+            return Ok(required);
         }
         self.document(first, &required);
         let body = match self.text(0) {
@@ -151,7 +156,28 @@ impl<'a> Eraser<'a> {
         let head = self.tokens[begin - 1];
         let end = if head.text == "," && body.is_empty() { head.at } else { head.end() };
         self.edits.replace(end..self.tokens[self.at].at, body);
-        Ok(())
+        Ok(required)
+    }
+
+    // Slices that are required to have one length are tested for that where the body begins, which spares rustc its tests of
+    // each access.
+    fn test_lengths(&mut self, first: usize, required: &[Range<usize>]) {
+        for clause in required {
+            let words: Vec<&str> =
+                self.tokens[clause.clone()].iter().map(|token| token.text).collect();
+            let ["length", one, ".", "old" | "now", "≡", "length", other, ".", "old" | "now"] =
+                words[..]
+            else {
+                continue;
+            };
+            if one != "self" && other != "self" {
+                let test = format!(
+                    "\n{}    assert!({one}.len() == {other}.len());",
+                    self.indent_of(first)
+                );
+                self.edits.insert(self.tokens[self.at].end(), test);
+            }
+        }
     }
 
     // What a public function requires of its callers, whom no one proves here, is a part of its documentation.
@@ -268,6 +294,23 @@ mod tests {
         assert_eq!(
             erased("pub(crate) fn f()\n    requires { x }\n{\n}\n"),
             "pub(crate) fn f() {\n}\n"
+        );
+    }
+
+    #[test]
+    fn lengths_that_are_required() {
+        assert_eq!(
+            erased(
+                "fn f(to: &mut [u8], from: &[u8])\n    requires room { length to.old ≡ length from.now }\n{\n    \
+                 g(to, from)\n}\n"
+            ),
+            "fn f(to: &mut [u8], from: &[u8]) {\n    assert!(to.len() == from.len());\n    g(to, from)\n}\n"
+        );
+        assert_eq!(
+            erased(
+                "fn f(x: &[u8])\n    requires { length x.now ≡ length self.now }\n{\n    x\n}\n"
+            ),
+            "fn f(x: &[u8]) {\n    x\n}\n"
         );
     }
 

@@ -21,6 +21,7 @@ mod imports;
 mod items;
 mod names;
 mod refusal;
+mod runs;
 mod token;
 
 pub use c_structs::CStructs;

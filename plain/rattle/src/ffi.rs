@@ -1,6 +1,7 @@
 //! Slices that C hands over, as a pointer and a length. The pointer is only looked at where the length isn't 0.
 
 use core::fmt;
+use core::hint::assert_unchecked;
 use core::marker::PhantomData;
 use core::slice as memory;
 
@@ -60,8 +61,11 @@ impl<T: fmt::Debug> fmt::Debug for Slice<'_, T> {
 pub unsafe fn slice<'a, T>(at: *const T, len: usize) -> &'a [T] {
     match len {
         0 => &[],
-        // SAFETY: the caller promises it.
-        _ => unsafe { memory::from_raw_parts(at, len) },
+        // SAFETY: the caller promises it. Where values are, no pointer is null: said here, it spares a test of an `Option`.
+        _ => unsafe {
+            assert_unchecked(!at.is_null());
+            memory::from_raw_parts(at, len)
+        },
     }
 }
 
