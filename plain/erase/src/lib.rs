@@ -2,8 +2,9 @@
 //!
 //! Rattle is Rust with contracts. What the prover reads goes: `ghost` items and fields, `requires` and `ensures`,
 //! implementations of `Model`, tactics and modules of laws. What differs from Rust becomes calls of a crate `rattle`, which
-//! stands in for the toolchain's library. All else stays as it is, with its comments and layout. What the eraser doesn't
-//! know it refuses, with the file and the line.
+//! stands in for the toolchain's library. All else stays as it is, with its comments and layout, but for two changes by which
+//! rustc tests less: slices that are required to have one length are tested for that once, and four bytes in a row are put as
+//! one number. What the eraser doesn't know it refuses, with the file and the line.
 
 #![forbid(unsafe_code)]
 #![warn(missing_docs)]
