@@ -8,4 +8,6 @@
 // The sources have a style of their own.
 #![allow(clippy::all)]
 
+mod shown;
+
 include!(concat!(env!("OUT_DIR"), "/crates.rs"));

@@ -31,7 +31,7 @@ fn members(columns: &[String], row: Tuple) -> Result<Vec<String>> {
     for (column, value) in columns.iter().zip(row) {
         match value {
             Datum::Null => members.push(format!("{column}: null")),
-            Datum::Text(text) => members.push(format!("{column}: {}", quoted(&text)?)),
+            Datum::Text(text) => members.push(format!("{column}: {}", quoted(text)?)),
             _ => {}
         }
     }
@@ -78,8 +78,8 @@ impl Follower {
     fn change(&mut self, content: &[u8], out: &mut Vec<u8>) -> Result<()> {
         match self.changes.read(content)? {
             Relation(it) => {
-                let name = quoted(&[&it.schema, &b"."[..], &it.name].concat())?;
-                let columns: Result<_> = it.columns.iter().map(|it| quoted(&it.name)).collect();
+                let name = quoted(&[it.schema, b".", it.name].concat())?;
+                let columns: Result<_> = it.columns.iter().map(|it| quoted(it.name)).collect();
                 self.tables.insert(it.relation, (name, columns?));
             }
             Insert(it) => self.add("insert", it.relation, None, Some(it.new))?,
@@ -115,7 +115,7 @@ impl Follower {
                 frontend::Message::Query(self.start[..].into()).write(out)?
             }
             Message::CopyData(data) => match Data::read(&data)? {
-                Data::XLogData(log) => self.change(log.content.0, out)?,
+                Data::XLogData(log) => self.change(log.content, out)?,
                 Data::PrimaryKeepalive(it) => {
                     // What was committed before it is on the disk.
                     self.status.flushed = self.status.flushed.max(it.end);
