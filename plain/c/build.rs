@@ -1,61 +1,28 @@
 //! Erases the sources of the crates for C into modules of this one. A package holds them erased in `src/erased`.
 
-use erase::{c_structs_of_folder, erase_folder, modules, CStructs, Names, Refusal, Root};
-use std::path::{Path, PathBuf};
-use std::{env, fs, process};
-
-/// The crates that `pg_c` stands on, and itself.
-const CRATES: [&str; 8] = [
-    "pg_base",
-    "pg_format",
-    "pg_send",
-    "pg_receive",
-    "pg_server",
-    "pg_replication",
-    "pg_frames",
-    "pg_c",
-];
+use erase::{c_structs_of_folder, erase_crates, write_modules, CStructs, Refusal, CRATES};
+use std::fs;
+use std::path::Path;
 
 fn main() {
-    let manifest = PathBuf::from(
-        env::var_os("CARGO_MANIFEST_DIR").expect("cargo names the folder of the package"),
-    );
-    let out =
-        PathBuf::from(env::var_os("OUT_DIR").expect("cargo names a folder for what is built"));
-    let packed = manifest.join("src/erased");
-    let erased = if packed.is_dir() {
-        packed
-    } else {
-        let top = manifest.join("../..");
-        erase_all(&top.join("crates"), &out).unwrap_or_else(|refusal| end(&refusal.to_string()));
-        write_words(&top.join("bindings/c/library/words.c"), &out);
-        out.clone()
-    };
-    let names = [&CRATES[..], &["refusals"]].concat();
-    fs::write(out.join("crates.rs"), modules(&erased, &names))
-        .expect("the folder for what is built can be written");
+    // Those that `pg_c` stands on, and itself.
+    let crates = [&CRATES[..CRATES.len() - 1], &["pg_c"]].concat();
+    let names = [&crates[..], &["refusals"]].concat();
+    write_modules(&names, |repository, out| {
+        erase_all(&crates, repository, out)?;
+        write_words(&repository.join("bindings/c/library/words.c"), out);
+        Ok(())
+    });
 }
 
-fn end(why: &str) {
-    eprintln!("{why}");
-    process::exit(1);
-}
-
-fn erase_all(crates: &Path, out: &Path) -> Result<(), Refusal> {
+fn erase_all(crates: &[&str], repository: &Path, out: &Path) -> Result<(), Refusal> {
     let mut structs = CStructs::default();
-    for name in CRATES {
-        let source = crates.join(name).join("src");
-        println!("cargo:rerun-if-changed={}", source.display());
-        let own = c_structs_of_folder(&source)?;
-        structs = structs.and(own.clone());
+    erase_crates(crates, repository, out, |name, source| {
+        let own = c_structs_of_folder(source)?;
+        structs = structs.clone().and(own.clone());
         // What C fills is named by its crate, and by the last.
-        let named = if name == "pg_c" { structs.clone() } else { own };
-        let names = Names::new().own(&format!("crate::{name}")).with_c_structs(named);
-        let names =
-            CRATES.iter().fold(names, |names, name| names.other(name, &format!("crate::{name}")));
-        erase_folder(&source, &out.join(name), Root::Module, &names)?;
-    }
-    Ok(())
+        Ok(if name == "pg_c" { structs.clone() } else { own })
+    })
 }
 
 /// The words of `pgmsg_strerror`, which the library in C has in rows as `[-PGMSG_SHORT] = "message body is too short",`.

@@ -1,27 +1,15 @@
 //! Erases the sources of the program.
 
-use erase::{erase_folder, Names, Root};
-use std::path::{Path, PathBuf};
-use std::{env, fs, process};
-
-const CRATES: [&str; 6] =
-    ["pg_base", "pg_format", "pg_send", "pg_receive", "pg_server", "pg_frames"];
+use erase::{cargo_folder, erase_folder, or_exit, Names, Root, CRATES};
+use std::fs;
+use std::path::Path;
 
 fn main() {
-    let manifest = PathBuf::from(
-        env::var_os("CARGO_MANIFEST_DIR").expect("cargo names the folder of the package"),
-    );
-    let out =
-        PathBuf::from(env::var_os("OUT_DIR").expect("cargo names a folder for what is built"));
-    let source = manifest.join("../../crates/pg_tool/src");
+    let out = cargo_folder("OUT_DIR");
+    let source = cargo_folder("CARGO_MANIFEST_DIR").join("../../crates/pg_tool/src");
     println!("cargo:rerun-if-changed={}", source.display());
-    let names = CRATES
-        .iter()
-        .fold(Names::new(), |names, name| names.other(name, &format!("pgmsg_core::{name}")));
-    if let Err(refusal) = erase_folder(&source, &out, Root::Crate, &names) {
-        eprintln!("{refusal}");
-        process::exit(1);
-    }
+    let names = Names::new().others(&CRATES, "pgmsg_core");
+    or_exit(erase_folder(&source, &out, Root::Crate, &names));
     include_root(&out.join("main.rs"));
 }
 

@@ -1,22 +1,10 @@
 //! Erases the tests of the crates into modules of this one, with what they share.
 
-use erase::{erase_folder, Names, Refusal, Root};
+use erase::{cargo_folder, erase_folder, or_exit, Names, Refusal, Root, CRATES};
 use std::fs::OpenOptions;
 use std::io::Write;
-use std::path::{Path, PathBuf};
-use std::{env, fs, io, process};
-
-/// The crates below `pgmsg_core`.
-const CORE: [&str; 8] = [
-    "pg_base",
-    "pg_format",
-    "pg_send",
-    "pg_receive",
-    "pg_server",
-    "pg_replication",
-    "pg_frames",
-    "pg_message",
-];
+use std::path::Path;
+use std::{fs, io, process};
 
 /// The modules of this crate, and where their sources are.
 const MODULES: [(&str, &str); 11] = [
@@ -34,16 +22,8 @@ const MODULES: [(&str, &str); 11] = [
 ];
 
 fn main() {
-    let top = PathBuf::from(
-        env::var_os("CARGO_MANIFEST_DIR").expect("cargo names the folder of the package"),
-    )
-    .join("../..");
-    let out =
-        PathBuf::from(env::var_os("OUT_DIR").expect("cargo names a folder for what is built"));
-    if let Err(refusal) = erase_all(&top, &out) {
-        eprintln!("{refusal}");
-        process::exit(1);
-    }
+    let (top, out) = (cargo_folder("CARGO_MANIFEST_DIR").join("../.."), cargo_folder("OUT_DIR"));
+    or_exit(erase_all(&top, &out));
     if let Err(error) = write_modules(&out) {
         eprintln!("{}: {error}", out.display());
         process::exit(1);
@@ -65,9 +45,7 @@ fn write_modules(out: &Path) -> io::Result<()> {
 }
 
 fn erase_all(top: &Path, out: &Path) -> Result<(), Refusal> {
-    let names = CORE.iter().fold(Names::new().shared("refusing"), |names, name| {
-        names.other(name, &format!("pgmsg_core::{name}"))
-    });
+    let names = Names::new().shared("refusing").others(&CRATES, "pgmsg_core");
     let names = names.other("examples", "crate::examples");
     erase(&top.join("tests/refused"), out, &names)?;
     for (name, source) in MODULES {

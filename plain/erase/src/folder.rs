@@ -41,12 +41,6 @@ pub fn erase_folder(
     Ok(read)
 }
 
-/// The declarations of modules whose sources lie in a folder, for a build script to write where a crate includes them.
-pub fn modules(erased: &Path, names: &[&str]) -> String {
-    let roots = names.iter().map(|name| (name, erased.join(name).join("mod.rs")));
-    roots.map(|(name, root)| format!("#[path = {root:?}]\npub mod {name};\n")).collect()
-}
-
 /// The structs that C fills in the sources of a folder.
 pub fn c_structs_of_folder(source: &Path) -> Result<CStructs, Refusal> {
     let mut all = CStructs::default();

@@ -20,13 +20,15 @@ mod folder;
 mod functions;
 mod imports;
 mod items;
+mod modules;
 mod names;
 mod refusal;
 mod runs;
 mod token;
 
 pub use c_structs::CStructs;
-pub use folder::{c_structs_of_folder, erase_folder, modules, Root};
+pub use folder::{c_structs_of_folder, erase_folder, Root};
+pub use modules::{cargo_folder, erase_crates, or_exit, write_modules, CRATES};
 pub use names::Names;
 pub use refusal::Refusal;
 
@@ -53,7 +55,6 @@ pub fn erase(source: &str, names: &Names) -> Result<String, Refusal> {
 #[cfg(test)]
 mod tests {
     use super::*;
-    use std::path::Path;
 
     /// What comes out of a source.
     pub fn erased(source: &str) -> String {
@@ -76,11 +77,6 @@ mod tests {
             erased("/// F.\nfn f(v: Vec<String>) {}\n"),
             "use rattle::prelude::{String, Vec};\n\n/// F.\nfn f(v: Vec<String>) {}\n"
         );
-    }
-
-    #[test]
-    fn modules_are_declared() {
-        assert_eq!(modules(Path::new("/x"), &["a"]), "#[path = \"/x/a/mod.rs\"]\npub mod a;\n");
     }
 
     #[test]

@@ -56,6 +56,11 @@ impl Names {
         self
     }
 
+    /// What the names of other crates become: modules of one.
+    pub fn others(self, names: &[&str], root: &str) -> Self {
+        names.iter().fold(self, |all, name| all.other(name, &format!("{root}::{name}")))
+    }
+
     /// Structs that C fills. Without them a struct in the layout of C stays as it is.
     pub fn with_c_structs(mut self, structs: CStructs) -> Self {
         self.c_structs = structs;
