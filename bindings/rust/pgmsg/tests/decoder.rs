@@ -6,55 +6,8 @@ use common::{fault_of, Numbers};
 use pgmsg::frontend::{copy_head, Message, MAX_FIRST_LENGTH};
 use pgmsg::{Decoder, Next, Refusal};
 
-/// A client's stream by hand: an SSLRequest, a Startup, and then messages with tags.
-const STREAM: &[u8] = b"\0\0\0\x08\x04\xd2\x16\x2f\
-    \0\0\0\x12\0\x03\0\0user\0ann\0\0\
-    Q\0\0\0\x0dSELECT 1\0\
-    P\0\0\0\x12s\0SELECT $1\0\0\0\
-    B\0\0\0\x12\0s\0\0\0\0\x01\0\0\0\x01\x31\0\0\
-    S\0\0\0\x04\
-    d\0\0\0\x04\
-    X\0\0\0\x04";
-
-/// Where each message of the stream begins, and where the stream ends.
-const STARTS: [usize; 9] = [0, 8, 26, 40, 59, 78, 83, 88, 93];
-
-/// The messages of a client's stream that comes in pieces, each with its offset and in words, and the bytes
-/// that are left.
-fn read_pieces<'a>(pieces: impl Iterator<Item = &'a [u8]>) -> (Vec<(u64, String)>, Vec<u8>) {
-    let (mut decoder, mut found, mut rest) = (Decoder::of_client(), Vec::new(), Vec::new());
-    for piece in pieces {
-        rest.extend_from_slice(piece);
-        while let Next::Frame(frame) = decoder.next(&rest).expect("no fault") {
-            let message = Message::read(&frame).expect("no fault");
-            found.push((frame.offset, format!("{message:?}")));
-            let length = frame.bytes.len();
-            rest.drain(..length);
-        }
-    }
-    (found, rest)
-}
-
-#[test]
-fn a_stream_that_is_cut_or_ends_anywhere_has_the_messages_that_are_whole() {
-    let (whole, rest) = read_pieces([STREAM].into_iter());
-    assert_eq!((whole.len(), rest.len()), (8, 0));
-    let starts = whole.iter().map(|(offset, _)| *offset as usize);
-    assert!(starts.eq(STARTS[..8].iter().copied()));
-    let words = |at: usize| whole[at].1.as_str();
-    assert_eq!((words(0), words(5), words(7)), ("SslRequest", "Sync", "Terminate"));
-    for at in 0..=STREAM.len() {
-        let (first, second) = STREAM.split_at(at);
-        let read = read_pieces([first, second].into_iter());
-        assert_eq!(read, (whole.clone(), vec![]));
-        let count = STARTS[1..].iter().filter(|&&end| end <= at).count();
-        let read = read_pieces([first].into_iter());
-        assert_eq!(read, (whole[..count].to_vec(), STREAM[STARTS[count]..at].to_vec()));
-    }
-    for size in 1..STREAM.len() {
-        assert_eq!(read_pieces(STREAM.chunks(size)), (whole.clone(), vec![]));
-    }
-}
+/// A Startup by hand.
+const STARTUP: &[u8] = b"\0\0\0\x12\0\x03\0\0user\0ann\0\0";
 
 #[test]
 fn incomplete_messages_say_their_tag_and_how_many_bytes_they_need() {
@@ -79,7 +32,7 @@ fn incomplete_messages_say_their_tag_and_how_many_bytes_they_need() {
     for len in 0..18 {
         let needed = if len < 4 { 4 } else { 18 };
         let part = Next::Incomplete { tag: None, needed };
-        assert_eq!(decoder.next(&STREAM[8..8 + len]), Ok(part));
+        assert_eq!(decoder.next(&STARTUP[..len]), Ok(part));
         assert!(decoder.expects_first());
     }
 }

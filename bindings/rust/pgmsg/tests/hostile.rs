@@ -7,7 +7,6 @@ use common::{checked, samples, Numbers};
 use pgmsg::backend::{self, end, rows_affected, RowIndex, Severity};
 use pgmsg::frontend::{self, SaslInitialResponse};
 use pgmsg::Refusal;
-use std::thread;
 
 /// The bodies of all messages of either side.
 fn bodies() -> Vec<&'static [u8]> {
@@ -127,18 +126,4 @@ fn a_body_beyond_the_limit_is_refused() {
         let words = "message body out of range for protocol: 2147483644";
         assert_eq!((fault.refusal, fault.words.as_str()), (Refusal::BodyTooLong, words));
     }
-}
-
-#[test]
-fn threads_read_at_once() {
-    thread::scope(|scope| {
-        for _ in 0..4 {
-            scope.spawn(|| {
-                let mut reader = RowIndex::new();
-                for body in bodies().repeat(30) {
-                    read_all(&mut reader, body);
-                }
-            });
-        }
-    });
 }

@@ -87,22 +87,17 @@ fn a_stream_keeps_whether_it_is_streamed() {
 }
 
 #[test]
-fn what_is_cut_off_or_changed_or_random() {
+fn what_is_cut_off_or_changed_is_shown_or_refused() {
     let mut numbers = Numbers::new(0x9e37_79b9_7f4a_7c15);
     for &(content, streamed) in KINDS {
         for len in 0..content.len() {
             assert!(checked(content, LogicalMessage::read(&content[..len], streamed)).is_none());
         }
-        for _ in 0..200 {
-            let mut content = content.to_vec();
-            let at = numbers.below(content.len());
-            content[at] = numbers.byte();
-            let more = numbers.below(3);
-            content.extend(numbers.bytes(more));
+        for _ in 0..500 {
+            let content = numbers.changed(content);
             for streamed in [false, true] {
                 if let Some(message) = checked(&content, LogicalMessage::read(&content, streamed)) {
-                    // Each list is walked, and has as many items as it says.
-                    assert_eq!(message, message);
+                    // Each list is walked.
                     assert!(!format!("{message:?}").is_empty());
                 }
             }

@@ -1,11 +1,20 @@
-//! Streams that are passed on, cut anywhere.
+//! Streams that are passed on. What the core's relay makes of each of them, whatever the pieces, its own tests have
+//! (`relay` of pg_frames): here are what the crate puts around it, and random streams.
 
 mod common;
 
-use common::passing::{passed, pieces, tagged, wanted, FIRSTS, LIMIT};
 use common::Numbers;
-use pgmsg::frontend::copy_head;
 use pgmsg::relay::*;
+use pgmsg::{Fault, Refusal};
+
+/// The most bytes of a message that is taken whole.
+const LIMIT: usize = 1 << 16;
+
+/// An SSLRequest and a Startup by hand.
+const FIRSTS: [&[u8]; 2] = [b"\0\0\0\x08\x04\xd2\x16\x2f", b"\0\0\0\x12\0\x03\0\0user\0ann\0\0"];
+
+/// A server's stream of three messages.
+const STREAM: &[u8] = b"1\0\0\0\x04D\0\0\0\x06\0\0Z\0\0\0\x05I";
 
 /// Messages with tags, of which a few are of more bytes than a piece has.
 fn messages(numbers: &mut Numbers) -> Vec<Vec<u8>> {
@@ -13,10 +22,32 @@ fn messages(numbers: &mut Numbers) -> Vec<Vec<u8>> {
     let message = |_| {
         let most = [1, 10, 300][numbers.below(3)];
         let length = numbers.below(most);
-        let body = numbers.bytes(length);
-        tagged(numbers.byte(), &body)
+        let mut message = vec![numbers.byte()];
+        message.extend((length as u32 + 4).to_be_bytes());
+        message.extend(numbers.bytes(length));
+        message
     };
     (0..count).map(message).collect()
+}
+
+/// A random choice of tags.
+fn wanted(numbers: &mut Numbers) -> Wanted {
+    match numbers.below(4) {
+        0 => Wanted::ALL,
+        1 => Wanted::NONE,
+        _ => Wanted::tags(&numbers.bytes(100)),
+    }
+}
+
+/// The pieces of a stream, each of up to so many bytes.
+fn pieces<'a>(stream: &'a [u8], most: usize, numbers: &mut Numbers) -> Vec<&'a [u8]> {
+    let (mut pieces, mut left) = (Vec::new(), stream);
+    while !left.is_empty() {
+        let (piece, after) = left.split_at(numbers.below(left.len().min(most) + 1));
+        pieces.push(piece);
+        left = after;
+    }
+    pieces
 }
 
 #[test]
@@ -32,7 +63,14 @@ fn random_messages_in_random_pieces_pass_unchanged() {
         }
         let stream = [firsts.concat(), messages.concat()].concat();
         let most = numbers.below(100) + 1;
-        let (out, whole) = passed(&mut relay, &pieces(&stream, most, &mut numbers));
+        let (mut out, mut whole) = (Vec::new(), Vec::new());
+        for piece in pieces(&stream, most, &mut numbers) {
+            let passed = relay.pass(piece, &mut out, |frame| {
+                whole.push(frame.bytes.to_vec());
+                Ok(Answer::Keep)
+            });
+            passed.expect("no fault");
+        }
         assert_eq!(out, stream);
         let due = messages.iter().filter(|it| wanted.wants(it[0]));
         assert!(whole.iter().eq(firsts.iter().chain(due)));
@@ -41,47 +79,32 @@ fn random_messages_in_random_pieces_pass_unchanged() {
 }
 
 #[test]
-fn a_stream_that_is_cut_or_ends_anywhere_passes_unchanged() {
-    let tail = [tagged(b'Q', b"SELECT 1\0"), tagged(b'd', b""), tagged(b'd', b"12")].concat();
-    let stream = [FIRSTS[0], FIRSTS[1], &tail[..]].concat();
-    for wanted in [Wanted::ALL, Wanted::NONE, Wanted::tags(b"d"), Wanted::tags(b"Q")] {
-        for at in 0..=stream.len() {
-            let (first, second) = stream.split_at(at);
-            let mut relay = Relay::of_client(LIMIT, wanted);
-            let (mut out, _) = passed(&mut relay, &[first]);
-            assert_eq!([&out[..], relay.held()].concat(), first);
-            out.extend(passed(&mut relay, &[second]).0);
-            assert_eq!(out, stream);
+fn bytes_of_any_kind_go_out_or_are_held_or_refused() {
+    let mut numbers = Numbers::new(0x9e37_79b9_7f4a_7c17);
+    for turn in 0..2000 {
+        let stream = numbers.stream(b"QDdZ\0");
+        let make = if turn % 2 == 0 { Relay::of_client } else { Relay::of_server };
+        let mut relay = make(40, wanted(&mut numbers));
+        let (mut out, mut came, mut passed) = (Vec::new(), Vec::new(), Ok(()));
+        for piece in pieces(&stream, 12, &mut numbers) {
+            came.extend(piece);
+            passed = relay.pass(piece, &mut out, |_| Ok(Answer::Keep));
+            if passed.is_err() {
+                break;
+            }
         }
-        for size in 1..stream.len() {
-            let pieces: Vec<_> = stream.chunks(size).collect();
-            let mut relay = Relay::of_client(LIMIT, wanted);
-            assert_eq!(passed(&mut relay, &pieces).0, stream);
-        }
+        out.extend(relay.held());
+        assert!(came.starts_with(&out));
+        assert!(passed.is_err() || came == out);
+        assert!(relay.held().len() < 40);
     }
-}
-
-#[test]
-fn a_message_in_one_piece_is_given_where_it_lies() {
-    let stream = [tagged(b'D', b"123"), tagged(b'd', b"456")].concat();
-    let mut relay = Relay::of_server(LIMIT, Wanted::tags(b"D"));
-    let mut piece = &stream[..];
-    for range in [0..8, 8..16] {
-        let bytes = match relay.next(&mut piece).expect("no fault") {
-            Some(Event::Frame(frame)) => frame.bytes,
-            Some(Event::Part { bytes, left: 0 }) => bytes,
-            other => panic!("{other:?}"),
-        };
-        assert_eq!(bytes.as_ptr_range(), stream[range].as_ptr_range());
-    }
-    assert_eq!(relay.next(&mut piece), Ok(None));
 }
 
 #[test]
 fn frames_have_a_tag_an_offset_and_a_body() {
     let mut relay = Relay::of_client(LIMIT, Wanted::ALL);
     let mut found = Vec::new();
-    let stream = [FIRSTS[1], &tagged(b'Q', b"SELECT 1\0")].concat();
+    let stream = [FIRSTS[1], b"Q\0\0\0\x0dSELECT 1\0"].concat();
     for byte in stream.chunks(1) {
         let passed = relay.pass(byte, &mut Vec::new(), |frame| {
             found.push((frame.tag, frame.offset, frame.body().to_vec()));
@@ -94,47 +117,82 @@ fn frames_have_a_tag_an_offset_and_a_body() {
 }
 
 #[test]
-fn a_gigabyte_passes_in_parts_without_being_held() {
-    const LENGTH: usize = 1 << 30;
-    let data = vec![0; 1 << 16];
-    for cut in 0..=5 {
-        let head = copy_head(LENGTH).expect("it is short enough");
-        let mut relay = Relay::of_server(100, Wanted::ALL.without(b"d"));
-        let (mut went, mut left) = (0, LENGTH);
-        let pieces = [&head[..cut], &head[cut..]];
-        let pieces = pieces.into_iter().chain((0..LENGTH >> 16).map(|_| &data[..]));
-        for mut piece in pieces {
-            while let Some(event) = relay.next(&mut piece).expect("no fault") {
-                match event {
-                    Event::Part { bytes, left: now } => {
-                        went += bytes.len();
-                        left = now;
-                    }
-                    other => panic!("{other:?}"),
-                }
-            }
-            assert!(relay.held().len() < 5);
+fn what_is_wanted_may_change() {
+    let mut relay = Relay::of_server(LIMIT, Wanted::NONE);
+    let row = b"D\0\0\0\x051";
+    assert_eq!(relay.next(&mut &row[..]), Ok(Some(Event::Part { bytes: row, left: 0 })));
+    relay.want(Wanted::tags(b"D"));
+    assert!(
+        matches!(relay.next(&mut &row[..]), Ok(Some(Event::Frame(frame))) if frame.bytes == row)
+    );
+    assert_eq!(format!("{:?}", relay.wanted()), "Wanted(b\"D\")");
+    assert_eq!(relay.limit(), LIMIT);
+}
+
+/// What goes out of the stream in pieces of a size, where its row is answered so.
+fn answered(size: usize, answer: &Answer) -> Result<Vec<u8>, Fault> {
+    let mut relay = Relay::of_server(100, Wanted::tags(b"D"));
+    let mut out = Vec::new();
+    for piece in STREAM.chunks(size) {
+        relay.pass(piece, &mut out, |_| Ok(answer.clone()))?;
+    }
+    Ok(out)
+}
+
+#[test]
+fn each_answer_whatever_the_pieces() {
+    let (front, row, end) = (&STREAM[..5], &STREAM[5..12], &STREAM[12..]);
+    let added = b"N\0\0\0\x05\0n\0\0\0\x04".to_vec();
+    let answers = [
+        (Answer::Keep, row.to_vec()),
+        (Answer::Omit, vec![]),
+        (Answer::Replace(added.clone()), added.clone()),
+        (Answer::AddBefore(added.clone()), [&added, row].concat()),
+        (Answer::AddAfter(added.clone()), [row, &added].concat()),
+    ];
+    for (answer, due) in answers {
+        for size in 1..=STREAM.len() {
+            assert_eq!(answered(size, &answer), Ok([front, &due, end].concat()));
         }
-        assert_eq!((went, left, relay.left()), (LENGTH + 5, 0, 0));
-        let (out, _) = passed(&mut relay, &[b"Z\0\0\0\x05I"]);
-        assert_eq!(out, b"Z\0\0\0\x05I");
+    }
+    for answer in [Answer::Replace, Answer::AddBefore, Answer::AddAfter] {
+        let fault = answered(4, &answer(added[..7].to_vec())).expect_err("a fault");
+        assert_eq!(fault.refusal, Refusal::NotFrames);
     }
 }
 
 #[test]
-fn wanted_messages_are_held_as_they_come() {
-    let mut relay = Relay::of_server(usize::MAX, Wanted::ALL);
-    let (out, _) = passed(&mut relay, &[b"D\x7f\xff\xff\xff", b"123"]);
-    assert_eq!((out.len(), relay.held()), (0, &b"D\x7f\xff\xff\xff123"[..]));
+fn a_stream_without_tags_goes_on_as_it_does() {
+    let passed = |answer: &Answer| {
+        let (mut relay, mut out) = (Relay::of_client(100, Wanted::NONE), Vec::new());
+        let startup = |frame: pgmsg::Frame<'_>| match frame.bytes == FIRSTS[1] {
+            true => Ok(answer.clone()),
+            false => Ok(Answer::Keep),
+        };
+        relay.pass(&FIRSTS.concat(), &mut out, startup).map_err(|fault| fault.refusal).map(|()| out)
+    };
+    let before = Answer::AddBefore(FIRSTS[0].to_vec());
+    assert_eq!(passed(&before), Ok([FIRSTS[0], FIRSTS[0], FIRSTS[1]].concat()));
+    assert_eq!(passed(&Answer::Omit), Err(Refusal::NotFrames));
+    assert_eq!(passed(&Answer::AddAfter(FIRSTS[0].to_vec())), Err(Refusal::NotFrames));
 }
 
 #[test]
-fn what_is_wanted_may_change() {
-    let stream = [tagged(b'D', b"1"), tagged(b'D', b"2")].concat();
-    let mut relay = Relay::of_server(LIMIT, Wanted::NONE);
-    assert!(passed(&mut relay, &[&stream]).1.is_empty());
-    relay.want(Wanted::tags(b"D"));
-    assert_eq!(passed(&mut relay, &[&stream]).1.len(), 2);
-    assert_eq!(format!("{:?}", relay.wanted()), "Wanted(b\"D\")");
-    assert_eq!(relay.limit(), LIMIT);
+fn faults_have_a_class() {
+    let refused = |mut relay: Relay, bytes: &[u8]| {
+        let mut piece = bytes;
+        let fault = relay.next(&mut piece).expect_err("a fault");
+        assert_eq!((piece, fault.words.is_empty()), (bytes, false));
+        fault.refusal
+    };
+    let (server, client) = (Relay::of_server, Relay::of_client);
+    assert_eq!(refused(server(5, Wanted::ALL), b"D\0\0\0\x06"), Refusal::FrameTooLong);
+    assert_eq!(refused(server(LIMIT, Wanted::NONE), b"D\0\0\0\x03"), Refusal::BadLength);
+    assert_eq!(refused(client(LIMIT, Wanted::NONE), b"\0\0\0\x07"), Refusal::BadLength);
+    let mut out = Vec::new();
+    let passed = server(100, Wanted::ALL).pass(STREAM, &mut out, |frame| match frame.tag {
+        Some(b'D') => Err(Refusal::OutOfMemory.into()),
+        _ => Ok(Answer::Keep),
+    });
+    assert_eq!((passed, &out[..]), (Err(Refusal::OutOfMemory.into()), &STREAM[..5]));
 }

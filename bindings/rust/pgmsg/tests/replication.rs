@@ -38,32 +38,19 @@ fn each_kind_is_read_as_it_is_written() {
     }
 }
 
-/// Whatever is taken is written so that it is read as the same.
-fn assert_read_back(data: &[u8]) {
-    if let Some(message) = checked(data, Message::read(data)) {
-        let mut out = Vec::new();
-        assert_eq!(message.write(&mut out), Ok(()));
-        assert_eq!(out.len(), data.len() + 5);
-        assert_eq!(Message::read(&out[5..]), Ok(message));
-    }
-}
-
 #[test]
-fn what_is_cut_off_or_changed_or_random() {
+fn what_is_cut_off_or_changed_is_read_back_or_refused() {
     let mut numbers = Numbers::new(0x9e37_79b9_7f4a_7c15);
-    for (bytes, message) in samples() {
+    for (bytes, _) in samples() {
         let data = &bytes[5..];
-        for len in 0..data.len() {
-            assert_ne!(Message::read(&data[..len]), Ok(message));
-            assert_read_back(&data[..len]);
-        }
-        for _ in 0..500 {
-            let mut data = data.to_vec();
-            let at = numbers.below(data.len());
-            data[at] = numbers.byte();
-            let more = numbers.below(3);
-            data.extend(numbers.bytes(more));
-            assert_read_back(&data);
+        let cut = (0..data.len()).map(|len| data[..len].to_vec()).collect::<Vec<_>>();
+        let changed = [(); 500].map(|()| numbers.changed(data));
+        for data in cut.into_iter().chain(changed) {
+            if let Some(message) = checked(&data, Message::read(&data)) {
+                let mut out = Vec::new();
+                assert_eq!(message.write(&mut out), Ok(()));
+                assert_eq!((out.len(), Message::read(&out[5..])), (data.len() + 5, Ok(message)));
+            }
         }
     }
 }

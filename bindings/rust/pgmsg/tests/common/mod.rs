@@ -3,7 +3,6 @@
 // Each test file is a crate of its own and uses a part.
 #![allow(dead_code, unused_imports, unused_macros)]
 
-pub mod passing;
 pub mod samples;
 
 use pgmsg::{Fault, Refusal};
@@ -55,6 +54,16 @@ impl Numbers {
             _ => self.byte(),
         };
         (0..len).map(byte).collect()
+    }
+
+    /// These bytes, of which one is another, and up to two bytes after them.
+    pub fn changed(&mut self, bytes: &[u8]) -> Vec<u8> {
+        let mut changed = bytes.to_vec();
+        let at = self.below(bytes.len());
+        changed[at] = self.byte();
+        let more = self.below(3);
+        changed.extend(self.bytes(more));
+        changed
     }
 
     /// A few messages with some of these tags, and up to seven bytes after them.
