@@ -4,7 +4,8 @@
 //! several; these structs can be read and written alone too. What follows the parts of a body is passed
 //! over: [`end`](fn@end) says where it begins. A message without a body is refused where it has one.
 //!
-//! A reader of many rows takes a [`RowIndex`], which needs no allocation for each.
+//! A reader of many rows takes a [`RowIndex`], which needs no allocation for each, or a [`RowReader`], which
+//! reads cell by cell and needs none.
 
 mod answers;
 mod authentication;
@@ -14,12 +15,13 @@ mod fields;
 mod severity;
 mod status;
 
-pub use crate::row::{places_in, Cell, Cells, Row, RowIndex};
+pub use crate::row::{Cell, Cells, Row, RowIndex};
 pub use answers::{rows_affected, FunctionCallResponse, Other};
 pub use authentication::Authentication;
 pub use columns::Column;
 pub use copy::CopyResponse;
 pub use fields::{Field, FieldKind, Fields};
+pub use pgmsg_core::pg_receive::message::RowReader;
 pub use severity::Severity;
 pub use status::{
     BackendKeyData, NegotiateProtocolVersion, NotificationResponse, ParameterStatus,

@@ -6,28 +6,15 @@ use pgmsg_core::pg_base::ProtocolFault;
 use pgmsg_core::pg_frames::relay::RelayError;
 use pgmsg_core::pg_server::frontend::FrontendFault;
 
-/// Makes the enum of refusals by a table of their numbers and words.
+/// Makes the enum of refusals by a table of their words.
 macro_rules! refusals {
-    ($($(#[$doc:meta])* $name:ident = $number:literal, $words:literal;)*) => {
+    ($($(#[$doc:meta])* $name:ident = $words:literal;)*) => {
         /// Why a message is refused.
         #[derive(Clone, Copy, Debug, PartialEq, Eq, Hash)]
         #[cfg_attr(feature = "serde", derive(serde::Serialize, serde::Deserialize))]
         #[non_exhaustive]
         pub enum Refusal {
             $($(#[$doc])* $name,)*
-        }
-
-        impl Refusal {
-            /// The number by which the C library of this project gives it: a `PGMSG_*` of its header.
-            ///
-            /// ```
-            /// assert_eq!(pgmsg::Refusal::Short.number(), -12);
-            /// ```
-            pub const fn number(self) -> i64 {
-                match self {
-                    $(Refusal::$name => $number,)*
-                }
-            }
         }
 
         impl fmt::Display for Refusal {
@@ -42,66 +29,66 @@ macro_rules! refusals {
 
 refusals! {
     /// An allocation failed.
-    OutOfMemory = -1, "out of memory";
+    OutOfMemory = "out of memory";
     /// More formats of parameters than a message can count.
-    TooManyParamFormats = -2, "too many formats of parameters";
+    TooManyParamFormats = "too many formats of parameters";
     /// More formats of results than a message can count.
-    TooManyResultFormats = -3, "too many formats of results";
+    TooManyResultFormats = "too many formats of results";
     /// More types of parameters than a message can count.
-    TooManyParamTypes = -4, "too many types of parameters";
+    TooManyParamTypes = "too many types of parameters";
     /// The message is longer than its length field can say.
-    MessageTooLong = -5, "message is too long for the protocol";
+    MessageTooLong = "message is too long for the protocol";
     /// The message was read as one of another kind.
-    WrongFormat = -6, "message is of another kind";
+    WrongFormat = "message is of another kind";
     /// The received body is longer than a length field can say.
-    BodyTooLong = -7, "message body is too long for the protocol";
+    BodyTooLong = "message body is too long for the protocol";
     /// No message that is known here, from a server or from a client, has this tag, or none of replication has
     /// this letter.
-    UnknownMessageType = -8, "unknown message type";
+    UnknownMessageType = "unknown message type";
     /// The server asks for a method of authentication that is not supported.
-    UnknownAuthentication = -9, "unsupported method of authentication";
+    UnknownAuthentication = "unsupported method of authentication";
     /// No transaction status has this letter.
-    UnknownStatus = -10, "unknown transaction status";
+    UnknownStatus = "unknown transaction status";
     /// No severity has this word or this level.
-    UnknownSeverity = -11, "unknown severity";
+    UnknownSeverity = "unknown severity";
     /// The body has fewer bytes than are needed.
-    Short = -12, "message body is too short";
+    Short = "message body is too short";
     /// A text has no NUL at its end.
-    MissingNul = -13, "text has no NUL at its end";
+    MissingNul = "text has no NUL at its end";
     /// A text is not UTF-8.
-    NotUtf8 = -14, "text is not UTF-8";
+    NotUtf8 = "text is not UTF-8";
     /// A text of an error or a notice is not UTF-8.
-    NoticeNotUtf8 = -15, "text of an error or a notice is not UTF-8";
+    NoticeNotUtf8 = "text of an error or a notice is not UTF-8";
     /// An item of SASL data has no room for a key and its separator.
-    ShortSaslItem = -16, "SASL item has fewer than two bytes";
+    ShortSaslItem = "SASL item has fewer than two bytes";
     /// A value of SASL data is not base64.
-    Base64 = -17, "SASL value is not base64";
+    Base64 = "SASL value is not base64";
     /// The length of the message is below 4, or that of a client's first message below 8.
-    BadLength = -18, "message length is too small";
+    BadLength = "message length is too small";
     /// A text to be sent holds a NUL, where the server would end it, or the name of a setting is empty.
-    TextHoldsNul = -19, "text holds a NUL";
+    TextHoldsNul = "text holds a NUL";
     /// The values of a Bind cannot be counted.
-    BadParams = -20, "too many values for a Bind";
+    BadParams = "too many values for a Bind";
     /// The secret key of a session has fewer than 4 or more than 256 bytes.
-    BadKeyLength = -21, "secret key of fewer than 4 or more than 256 bytes";
+    BadKeyLength = "secret key of fewer than 4 or more than 256 bytes";
     /// No first message has this code.
-    UnknownCode = -22, "unknown code of a first message";
+    UnknownCode = "unknown code of a first message";
     /// A Describe or a Close names neither a statement nor a portal.
-    UnknownTarget = -23, "neither a statement nor a portal";
+    UnknownTarget = "neither a statement nor a portal";
     /// A value has a length below -1, which says NULL.
-    BadValueLength = -24, "value length is below -1";
+    BadValueLength = "value length is below -1";
     /// Bytes follow the end of a message.
-    TrailingBytes = -25, "bytes follow the end of a message";
+    TrailingBytes = "bytes follow the end of a message";
     /// A first message is longer than the caller takes.
-    FirstTooLong = -26, "first message is too long";
+    FirstTooLong = "first message is too long";
     /// More items than a message to a client can count.
-    TooMany = -27, "more items than can be counted";
+    TooMany = "more items than can be counted";
     /// What is to be added to a stream is no run of whole messages.
-    NotFrames = -28, "not a run of whole messages";
+    NotFrames = "not a run of whole messages";
     /// A message that is wanted whole is longer than the caller takes.
-    FrameTooLong = -29, "message is longer than is taken whole";
+    FrameTooLong = "message is longer than is taken whole";
     /// No row and no value of logical replication has this letter.
-    UnknownLetter = -30, "unknown letter of a row or a value";
+    UnknownLetter = "unknown letter of a row or a value";
 }
 
 impl From<ProtocolFault> for Refusal {

@@ -8,16 +8,9 @@ use crate::body::checked;
 use crate::error::{Fault, Refusal};
 use crate::list::List;
 use crate::value::Value;
-use alloc::vec;
 use alloc::vec::Vec;
 use core::fmt;
-use pgmsg_core::pg_receive::message::{cell_at, RowReader};
-
-/// Where the first cell begins, after the count.
-const FIRST_CELL: usize = 2;
-
-/// The bytes of a cell's length.
-const LENGTH: usize = 4;
+use pgmsg_core::pg_receive::message::RowReader;
 
 /// Reads the body of a DataRow.
 pub(crate) fn read(body: &[u8]) -> Result<List<'_, Value<'_>>, Fault> {
@@ -52,7 +45,7 @@ impl RowIndex {
 
     /// A reader with room for rows of so many cells.
     pub fn with_capacity(cells: usize) -> RowIndex {
-        RowIndex { cells: vec![Cell::default(); cells] }
+        RowIndex { cells: Vec::with_capacity(cells) }
     }
 
     /// Reads the body of a DataRow.
@@ -60,64 +53,14 @@ impl RowIndex {
     /// It allocates only for a row of more cells than any row before.
     #[inline]
     pub fn read<'b>(&mut self, body: &'b [u8]) -> Result<Row<'b, '_>, Fault> {
-        let count = places_in(body, &mut self.cells)?;
-        if count > self.cells.len() {
-            self.grow(count)?;
-            places_in(body, &mut self.cells)?;
+        let mut reader = RowReader::new(checked(body)?)?;
+        self.cells.clear();
+        self.cells.try_reserve(reader.len()).map_err(|_| Refusal::OutOfMemory)?;
+        while let Some(value) = reader.next_cell()? {
+            self.cells.push(Cell::new(body.len() - reader.rest().len(), value));
         }
-        Ok(Row { body, cells: &self.cells[..count] })
+        Ok(Row { body, cells: &self.cells })
     }
-
-    /// Makes room for rows of so many cells.
-    #[cold]
-    fn grow(&mut self, cells: usize) -> Result<(), Refusal> {
-        let missing = cells - self.cells.len();
-        self.cells.try_reserve(missing).map_err(|_| Refusal::OutOfMemory)?;
-        self.cells.resize(cells, Cell::default());
-        Ok(())
-    }
-}
-
-/// How many cells a row has, by the body of its DataRow. As many places as there is room for are
-/// written.
-///
-/// ```
-/// # use pgmsg::backend::{places_in, Cell};
-/// let mut room = [Cell::default(); 8];
-/// let count = places_in(b"\0\x02\0\0\0\x015\xff\xff\xff\xff", &mut room)?;
-/// assert_eq!((count, room[0].range()), (2, Some(6..7)));
-/// # Ok::<(), pgmsg::Fault>(())
-/// ```
-#[inline]
-pub fn places_in(body: &[u8], room: &mut [Cell]) -> Result<usize, Fault> {
-    let count = RowReader::new(checked(body)?)?.len();
-    let wanted = count.min(room.len());
-    let (found, mut at) = find(body, &mut room[..wanted]);
-    // Those that there is no room for, and the one that is broken.
-    for _ in found..count {
-        at = cell_at(body, at)?.1;
-    }
-    Ok(count)
-}
-
-/// Finds the first cells of a row, up to one that is broken: how many they are, and the offset after them.
-#[inline]
-fn find(body: &[u8], room: &mut [Cell]) -> (usize, usize) {
-    let (mut found, mut at) = (0, FIRST_CELL);
-    for place in room {
-        let Some(length) = body.get(at..).and_then(<[u8]>::first_chunk) else { break };
-        let (len, start) = (i32::from_be_bytes(*length), at + LENGTH);
-        // A length below 0, which says NULL, is beyond every body without its sign.
-        let end = start as u64 + u64::from(len.cast_unsigned());
-        at = match end <= body.len() as u64 {
-            true => end as usize,
-            false if len < 0 => start,
-            false => break,
-        };
-        *place = Cell::new(start, len);
-        found += 1;
-    }
-    (found, at)
 }
 
 /// A row: for each column the bytes of its value, or `None` where it is NULL.

@@ -1,11 +1,9 @@
 //! A fault of each number that a reader gives, by its offset and its words; and what a caller can't write. What each
-//! reader and each writer refuses the tests of the C library have, and `hostile` that no reader takes it here. Each number of
-//! the header has its refusal, of the same name.
+//! reader and each writer refuses the tests of the C library have, and `hostile` that no reader takes it here.
 
 use pgmsg::backend::{self, Column, CopyResponse, Field, FieldKind, Severity, TransactionStatus};
 use pgmsg::frontend::{self, copy_head, Bind, Message, Parse, Startup};
 use pgmsg::{Fault, Format, Refusal, Refusal::*, Value};
-use std::collections::BTreeMap;
 
 /// The tag of a message and its body that is refused, why, at which offset, and in which words.
 type Row = (Option<u8>, &'static [u8], Refusal, usize, &'static str);
@@ -129,26 +127,4 @@ fn what_is_beyond_the_limit() {
         MessageTooLong: backend::Message::DataRow([(&data).into()].into());
         MessageTooLong: backend::Other { tag: b'!', body: (&data).into() };
     }
-}
-
-const HEADER: &str = include_str!("../../../c/include/pg_message.h");
-
-#[rustfmt::skip]
-const ALL: &[Refusal] = &[
-    OutOfMemory, TooManyParamFormats, TooManyResultFormats, TooManyParamTypes, MessageTooLong,
-    WrongFormat, BodyTooLong, UnknownMessageType, UnknownAuthentication, UnknownStatus,
-    UnknownSeverity, Short, MissingNul, NotUtf8, NoticeNotUtf8, ShortSaslItem, Base64, BadLength,
-    TextHoldsNul, BadParams, BadKeyLength, UnknownCode, UnknownTarget, BadValueLength,
-    TrailingBytes, FirstTooLong, TooMany, NotFrames, FrameTooLong, UnknownLetter,
-];
-
-#[test]
-fn refusals_have_the_numbers_of_the_header() {
-    let due = ALL.iter().map(|it| (format!("pgmsg{it:?}").to_lowercase(), it.number()));
-    let lines = HEADER.lines().filter_map(|line| line.trim().strip_suffix(','));
-    let numbers = lines.filter_map(|line| line.split_once(" = -"));
-    let found = numbers.map(|(name, number)| {
-        (name.replace('_', "").to_lowercase(), -number.parse::<i64>().expect("a number"))
-    });
-    assert_eq!(found.collect::<BTreeMap<_, _>>(), due.collect());
 }

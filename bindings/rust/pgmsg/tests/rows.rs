@@ -42,18 +42,6 @@ fn places_of_cells() {
 }
 
 #[test]
-fn places_in_an_array() {
-    for length in 0..5 {
-        let mut room = vec![Cell::default(); length];
-        assert_eq!(places_in(BODY, &mut room), Ok(3));
-        let given = room.iter().map(|cell| cell.value(BODY));
-        assert!(given.eq([Some(&b"ab"[..]), None, Some(b""), Some(b"")].into_iter().take(length)));
-    }
-    let fault = places_in(b"\0\x01", &mut []).map(|_| ());
-    assert_eq!(fault_of(fault), (Refusal::Short, 2));
-}
-
-#[test]
 fn a_reader_is_used_again() {
     let mut reader = RowIndex::new();
     let wide = b"\0\x02\0\0\0\x01a\0\0\0\x01b";

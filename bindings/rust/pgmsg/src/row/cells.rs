@@ -13,9 +13,13 @@ pub struct Cell {
 }
 
 impl Cell {
+    /// The place of a value that ends at an offset.
     #[inline(always)]
-    pub(super) fn new(at: usize, len: i32) -> Cell {
-        Cell { at: at as u32, len }
+    pub(super) fn new(end: usize, value: Option<&[u8]>) -> Cell {
+        match value {
+            Some(value) => Cell { at: (end - value.len()) as u32, len: value.len() as i32 },
+            None => Cell { at: end as u32, len: -1 },
+        }
     }
 
     /// Where the value lies in the body, or `None` where it is NULL.
