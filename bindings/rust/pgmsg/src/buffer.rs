@@ -2,6 +2,7 @@
 
 use crate::error::Refusal;
 use alloc::vec::Vec;
+use core::mem;
 use pgmsg_core::pg_base::io::part::Part;
 use pgmsg_core::pg_base::io::{checked_len, Encodable, Sink, Tagged, HEADER};
 use pgmsg_core::pg_base::ProtocolFault;
@@ -10,6 +11,10 @@ use pgmsg_core::pg_server::backend::OutboundMessage;
 
 /// The least room that is added to a vector at once, so that small messages need few allocations.
 const LEAST_GROWTH: usize = 1 << 10;
+
+/// So few bytes are quickly filled with zeros.
+#[cfg(feature = "bytes")]
+const FEW: usize = 1 << 9;
 
 /// What messages are appended to: a `Vec<u8>`, with the feature `bytes` a `BytesMut`, or a type of yours.
 ///
@@ -61,6 +66,14 @@ pub trait Buffer {
 
     /// Appends bytes, for which room was made.
     fn extend_from_slice(&mut self, bytes: &[u8]);
+
+    /// Appends so many bytes, for which room was made, to be written over; or none, where it is as quick to append a
+    /// message piece by piece.
+    #[doc(hidden)]
+    #[inline(always)]
+    fn extend_by(&mut self, _length: usize) -> Option<&mut [u8]> {
+        None
+    }
 }
 
 impl Buffer for Vec<u8> {
@@ -111,12 +124,23 @@ impl Buffer for bytes::BytesMut {
     fn extend_from_slice(&mut self, bytes: &[u8]) {
         bytes::BytesMut::extend_from_slice(self, bytes);
     }
+
+    // It tests at each piece whether there is room.
+    #[inline(always)]
+    fn extend_by(&mut self, length: usize) -> Option<&mut [u8]> {
+        if length > FEW {
+            return None;
+        }
+        let start = self.len();
+        self.resize(start + length, 0);
+        self.get_mut(start..)
+    }
 }
 
-/// A buffer as the core writes to it, a piece at a time.
-struct Out<'b, B>(&'b mut B);
+/// Where the core writes to, a piece at a time, which this function takes.
+struct Out<F>(F);
 
-impl<B: Buffer> Sink for Out<'_, B> {
+impl<F: FnMut(&[u8])> Sink for Out<F> {
     #[inline(always)]
     fn put_u8(&mut self, byte: u8) {
         self.put_slice(&[byte]);
@@ -124,7 +148,7 @@ impl<B: Buffer> Sink for Out<'_, B> {
 
     #[inline(always)]
     fn put_slice(&mut self, bytes: &[u8]) {
-        self.0.extend_from_slice(bytes);
+        self.0(bytes);
     }
 
     #[inline(always)]
@@ -151,7 +175,15 @@ pub(crate) fn put_text<T: Encodable, B: Buffer>(
     out: &mut B,
 ) -> Result<(), Refusal> {
     out.try_reserve(length)?;
-    text.put(&mut Out(out));
+    if let Some(mut room) = out.extend_by(length) {
+        text.put(&mut Out(|bytes: &[u8]| {
+            let (place, rest) = mem::take(&mut room).split_at_mut(bytes.len());
+            place.copy_from_slice(bytes);
+            room = rest;
+        }));
+    } else {
+        text.put(&mut Out(|bytes: &[u8]| out.extend_from_slice(bytes)));
+    }
     Ok(())
 }
 

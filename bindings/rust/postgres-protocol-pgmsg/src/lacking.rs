@@ -12,6 +12,23 @@ pub(crate) fn refused(words: &'static str) -> io::Error {
     io::Error::new(io::ErrorKind::InvalidInput, words)
 }
 
+/// Passes on the items of a list as a slice, which needs no memory where they are few.
+#[inline]
+pub(crate) fn with_list<T: Copy + Default, R>(
+    items: impl IntoIterator<Item = T>,
+    take: impl FnOnce(&[T]) -> R,
+) -> R {
+    let (mut few, mut items) = ([T::default(); 16], items.into_iter());
+    for count in 0..few.len() {
+        match items.next() {
+            Some(item) => few[count] = item,
+            None => return take(&few[..count]),
+        }
+    }
+    let all: Vec<T> = few.into_iter().chain(items).collect();
+    take(&all)
+}
+
 /// Tests that a body ends where what was read of it does.
 #[inline]
 pub(crate) fn ends(body: &[u8], end: usize) -> io::Result<()> {

@@ -7,7 +7,7 @@ pub use bind::bind;
 pub use copy::{copy_done, copy_fail, CopyData};
 pub use original::message::frontend::BindError;
 
-use crate::lacking::refused;
+use crate::lacking::{refused, with_list};
 use crate::Oid;
 use bytes::BytesMut;
 use pgmsg::frontend::{
@@ -65,12 +65,9 @@ pub fn parse<I>(name: &str, query: &str, param_types: I, buf: &mut BytesMut) -> 
 where
     I: IntoIterator<Item = Oid>,
 {
-    let parse = Parse {
-        statement: name.into(),
-        query: query.into(),
-        types: param_types.into_iter().collect(),
-    };
-    Ok(parse.write(buf)?)
+    let (statement, query) = (name.into(), query.into());
+    let put = |types: &[Oid]| Parse { statement, query, types: types.into() }.write(buf);
+    Ok(with_list(param_types, put)?)
 }
 
 /// Sends a password, or the digest of one: PasswordMessage.

@@ -1,27 +1,15 @@
-//! Bind, whose values a function of the caller writes.
+//! Bind, whose values a function of the caller writes where they are sent from.
 
+use crate::lacking::{refused, with_list};
 use crate::IsNull;
-use bytes::BytesMut;
+use bytes::{BufMut, BytesMut};
 use original::message::frontend::BindError;
-use pgmsg::{frontend, Format, Refusal, Values};
-use std::cell::Cell;
+use pgmsg::{frontend, Format, Refusal};
 use std::error::Error;
 use std::io;
 
-/// The most bytes of values whose allocation is kept for the next Bind.
-const KEPT: usize = 1 << 16;
-
-/// What a Bind is made of, before it is one. Its allocations are used again.
-#[derive(Default)]
-struct Parts {
-    formats: Vec<Format>,
-    result_formats: Vec<Format>,
-    values: Values<BytesMut>,
-}
-
-thread_local! {
-    static PARTS: Cell<Option<Box<Parts>>> = const { Cell::new(None) };
-}
+/// The bytes of the two counts that end a Bind without values and result formats.
+const COUNTS: usize = 4;
 
 /// Makes a portal of a statement and the values of its parameters: Bind. `serializer` appends the
 /// bytes of each value to the buffer that it is passed, or answers that it is NULL.
@@ -41,43 +29,90 @@ where
     F: FnMut(T, &mut BytesMut) -> Result<IsNull, Box<dyn Error + Sync + Send>>,
     K: IntoIterator<Item = i16>,
 {
-    let mut parts = PARTS.try_with(Cell::take).ok().flatten().unwrap_or_default();
-    parts.formats.extend(formats.into_iter().map(Format));
-    for value in values {
-        parts.values.push(|bytes| {
-            let is_null = serializer(value, bytes)?;
-            Ok::<_, BindError>(Some(()).filter(|()| matches!(is_null, IsNull::No)))
-        })?;
+    let start = buf.len();
+    let formats = formats.into_iter().map(Format);
+    let put_value = |value, buf: &mut BytesMut| put_value(|buf| serializer(value, buf), buf);
+    let put_format = |format, buf: &mut BytesMut| {
+        buf.put_i16(format);
+        Ok(())
+    };
+    let written = with_list(formats, |formats| put_names(portal, statement, formats, buf))
+        .and_then(|()| put_counted(values, put_value, Refusal::BadParams, buf))
+        .and_then(|()| put_counted(result_formats, put_format, Refusal::TooManyResultFormats, buf))
+        .and_then(|()| put_length(start, buf));
+    if written.is_err() {
+        buf.truncate(start);
     }
-    let codes = result_formats.into_iter().map(Format);
-    parts.result_formats.extend(codes);
-    let written = parts.write(portal, statement, buf);
-    parts.keep();
-    Ok(written.map_err(io::Error::from)?)
+    written
 }
 
-impl Parts {
-    /// Appends the message.
-    #[inline]
-    fn write(&mut self, portal: &str, statement: &str, buf: &mut BytesMut) -> Result<(), Refusal> {
-        let bind = frontend::Bind {
-            portal: portal.into(),
-            statement: statement.into(),
-            formats: (&self.formats).into(),
-            values: self.values.list().into(),
-            result_formats: (&self.result_formats).into(),
-        };
-        bind.write(buf)
-    }
+/// Appends a Bind up to its values.
+#[inline]
+fn put_names(
+    portal: &str,
+    statement: &str,
+    formats: &[Format],
+    buf: &mut BytesMut,
+) -> Result<(), BindError> {
+    let (portal, statement) = (portal.into(), statement.into());
+    let bind = frontend::Bind { portal, statement, formats: formats.into(), ..Default::default() };
+    bind.write(buf).map_err(io::Error::from)?;
+    buf.truncate(buf.len() - COUNTS);
+    Ok(())
+}
 
-    /// Keeps the allocations for the next Bind of this thread, unless they are large.
-    #[inline]
-    fn keep(mut self: Box<Self>) {
-        if self.values.bytes_len() <= KEPT {
-            self.formats.clear();
-            self.result_formats.clear();
-            self.values.clear();
-            let _ = PARTS.try_with(|parts| parts.set(Some(self)));
-        }
+/// Appends items after their count, which is refused where it has more than two bytes.
+#[inline]
+fn put_counted<T>(
+    items: impl IntoIterator<Item = T>,
+    mut put: impl FnMut(T, &mut BytesMut) -> Result<(), BindError>,
+    too_many: Refusal,
+    buf: &mut BytesMut,
+) -> Result<(), BindError> {
+    let (at, mut count) = (buf.len(), 0usize);
+    buf.put_u16(0);
+    for item in items {
+        put(item, buf)?;
+        count += 1;
+    }
+    let count = u16::try_from(count).map_err(|_| io::Error::from(too_many))?;
+    buf[at..at + 2].copy_from_slice(&count.to_be_bytes());
+    Ok(())
+}
+
+/// Appends a value after its length, which is -1 where it is NULL.
+#[inline]
+fn put_value(
+    put: impl FnOnce(&mut BytesMut) -> Result<IsNull, Box<dyn Error + Sync + Send>>,
+    buf: &mut BytesMut,
+) -> Result<(), BindError> {
+    let at = buf.len();
+    buf.put_i32(-1);
+    let start = at + 4;
+    let is_null = put(buf)?;
+    let length = length_of(start, buf)?;
+    match is_null {
+        IsNull::Yes => buf.truncate(start),
+        IsNull::No => buf[at..start].copy_from_slice(&length.to_be_bytes()),
+    }
+    Ok(())
+}
+
+/// Writes the length of the message that begins at an offset.
+#[inline]
+fn put_length(start: usize, buf: &mut BytesMut) -> Result<(), BindError> {
+    let at = start + 1;
+    let length = length_of(at, buf)?;
+    buf[at..at + 4].copy_from_slice(&length.to_be_bytes());
+    Ok(())
+}
+
+/// How many bytes there are from an offset on. A caller's function may have taken away those before it.
+#[inline]
+fn length_of(start: usize, buf: &BytesMut) -> Result<i32, BindError> {
+    match buf.len().checked_sub(start).map(i32::try_from) {
+        Some(Ok(length)) => Ok(length),
+        Some(Err(_)) => Err(io::Error::from(Refusal::MessageTooLong).into()),
+        None => Err(refused("bytes before a value are gone").into()),
     }
 }
