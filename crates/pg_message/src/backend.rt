@@ -1,4 +1,4 @@
-//! What a server sends, as a server, a proxy or a pooler writes it: each message by [`encode`] or [`write`].
+//! What a server sends, as a server, a proxy or a pooler writes it: each message by [`encode`] or [`write()`].
 
 pub use pg_server::backend::{
     AsOutboundItem, CopyDirection, Count, Counted, Mechanism, NoticeKind, NulEnded,

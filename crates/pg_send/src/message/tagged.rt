@@ -45,7 +45,7 @@ pub enum TaggedMessage<'a> {
 }
 
 impl TaggedMessage<'_> {
-    /// Adds the message to the buffer: [`encode_frame`] of what it holds.
+    /// Adds the message to the buffer: [`encode_frame`](crate::message::encode_frame) of what it holds.
     // Inlined, so that the answer isn't copied on its way.
     #[inline(always)]
     pub fn encode(&self, buf: &mut Vec<u8>) -> Result<(), Error>
@@ -71,8 +71,8 @@ impl TaggedMessage<'_> {
         self.encode_held(buf)
     }
 
-    /// Adds the message within the limits where the spare room holds it: [`put_if_fits`] of what it
-    /// holds.
+    /// Adds the message within the limits where the spare room holds it:
+    /// [`put_if_fits`](crate::message::put_if_fits) of what it holds.
     #[inline(always)]
     pub fn put_if_fits(&self, buf: &mut Vec<u8>) -> bool
         ensures encodes { OnTrue result (Adds (law_of (message_of self.now)) buf.old buf.new) }

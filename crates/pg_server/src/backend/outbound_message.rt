@@ -47,7 +47,7 @@ pub trait OutboundMessage: Sized + Drop {
         encode(self, buf)
     }
 
-    /// Writes the whole message into the caller's bytes, as [`write`] does.
+    /// Writes the whole message into the caller's bytes, as [`write()`] does.
     final fn write(&self, out: &mut [u8]) -> Result<usize, ProtocolFault>
         ensures written { IsWritten (law_of (message self.now)) out.old out.new result }
         ensures read { IfOk result (λ len. len ≤ length out.old → IsRead (message self.now)) }
