@@ -15,7 +15,7 @@ mod fields;
 mod severity;
 mod status;
 
-pub use crate::row::{Cell, Cells, Row, RowIndex};
+pub use crate::row::{Cell, Row, RowIndex};
 pub use answers::{rows_affected, FunctionCallResponse, Other};
 pub use authentication::Authentication;
 pub use columns::Column;

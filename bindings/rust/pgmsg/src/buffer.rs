@@ -67,8 +67,7 @@ pub trait Buffer {
     /// Appends bytes, for which room was made.
     fn extend_from_slice(&mut self, bytes: &[u8]);
 
-    /// Appends so many bytes, for which room was made, to be written over; or none, where it is as quick to append a
-    /// message piece by piece.
+    /// Appends so many bytes, to be written over; or none, where it is as quick to append a message piece by piece.
     #[doc(hidden)]
     #[inline(always)]
     fn extend_by(&mut self, _length: usize) -> Option<&mut [u8]> {
@@ -174,16 +173,16 @@ pub(crate) fn put_text<T: Encodable, B: Buffer>(
     length: usize,
     out: &mut B,
 ) -> Result<(), Refusal> {
-    out.try_reserve(length)?;
     if let Some(mut room) = out.extend_by(length) {
         text.put(&mut Out(|bytes: &[u8]| {
             let (place, rest) = mem::take(&mut room).split_at_mut(bytes.len());
             place.copy_from_slice(bytes);
             room = rest;
         }));
-    } else {
-        text.put(&mut Out(|bytes: &[u8]| out.extend_from_slice(bytes)));
+        return Ok(());
     }
+    out.try_reserve(length)?;
+    text.put(&mut Out(|bytes: &[u8]| out.extend_from_slice(bytes)));
     Ok(())
 }
 

@@ -17,19 +17,15 @@
 //! ```
 
 mod bind;
-mod copy;
 mod first;
 mod password;
 mod prepared;
 
 pub use bind::{Bind, FunctionCall};
-pub use copy::copy_head;
 pub use first::{CancelRequest, Setting, Settings, Startup};
 pub use password::{Md5Password, Password, PasswordMessage, SaslInitialResponse};
 pub use pgmsg_core::pg_frames::frontend::MAX_FIRST_LENGTH;
 pub use prepared::{Execute, Parse, Target};
-
-pub(crate) use copy::read as read_data;
 
 use crate::body::checked;
 use crate::buffer::{put_message, put_sound, Buffer};
@@ -39,10 +35,38 @@ use crate::frame::Frame;
 use crate::message::{messages, put_nothing, read_nothing};
 use crate::owned::{owned, Kept};
 use first::{put_gss_enc_request, put_ssl_request, read_first};
-use pgmsg_core::pg_base::io::Ended;
+use pgmsg_core::pg_base::io::{Cursor, Ended, Sink, HEADER, MAX_BODY};
 use pgmsg_core::pg_send::message::round_trip::check_ended;
 use pgmsg_core::pg_send::message::{CopyData, RawClose, RawDescribe};
 use pgmsg_core::pg_server::frontend;
+
+/// The first five bytes of a CopyData message of either side, which `len` bytes of data follow.
+///
+/// A program that sends them one after the other needs no copy of the data, as
+/// [`Message::write`] makes one.
+///
+/// Refused with [`MessageTooLong`](Refusal::MessageTooLong) above 2147483643 bytes.
+///
+/// ```
+/// # use pgmsg::frontend::copy_head;
+/// assert_eq!(copy_head(b"1\t2\n".len())?, *b"d\0\0\0\x08");
+/// # Ok::<(), pgmsg::Refusal>(())
+/// ```
+#[inline]
+pub fn copy_head(len: usize) -> Result<[u8; HEADER], Refusal> {
+    if len > MAX_BODY {
+        return Err(Refusal::MessageTooLong);
+    }
+    let mut head = [0; HEADER];
+    Cursor::new(&mut head).put_head(b'd', len);
+    Ok(head)
+}
+
+/// All of the body is data.
+#[inline]
+pub(crate) fn read_data(body: &[u8]) -> Result<ByteStr<'_>, Fault> {
+    Ok(ByteStr(body))
+}
 
 /// Reads a text without its NUL.
 #[inline]

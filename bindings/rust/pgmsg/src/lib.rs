@@ -76,5 +76,5 @@ pub use list::List;
 pub use value::{Format, Value};
 pub use values::Values;
 
-/// The number of an object in the catalog of a server, such as a type, a table or a function.
+/// The number of an object in the catalog of a server, such as a type, a table or a function: a `u32`, as in `postgres-types`.
 pub type Oid = u32;

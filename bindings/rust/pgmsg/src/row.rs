@@ -1,16 +1,16 @@
 //! The cells of a row.
 
-mod cells;
-
-pub use cells::{Cell, Cells};
-
 use crate::body::checked;
 use crate::error::{Fault, Refusal};
 use crate::list::List;
 use crate::value::Value;
 use alloc::vec::Vec;
 use core::fmt;
-use pgmsg_core::pg_receive::message::RowReader;
+use core::ops::Range;
+use pgmsg_core::pg_receive::message::{cell_at, RowReader};
+
+/// Where the first cell begins, after the count.
+const FIRST_CELL: usize = 2;
 
 /// Reads the body of a DataRow.
 pub(crate) fn read(body: &[u8]) -> Result<List<'_, Value<'_>>, Fault> {
@@ -20,6 +20,53 @@ pub(crate) fn read(body: &[u8]) -> Result<List<'_, Value<'_>>, Fault> {
         values.push(value.into());
     }
     Ok(values.into())
+}
+
+/// The place of a cell in the body of its row. The default is an empty value at the front.
+#[derive(Clone, Copy, Debug, Default)]
+pub struct Cell {
+    at: u32,
+    /// Below 0 where it is NULL.
+    len: i32,
+}
+
+impl Cell {
+    /// The place of a value that ends at an offset.
+    #[inline(always)]
+    fn new(end: usize, value: Option<&[u8]>) -> Cell {
+        match value {
+            Some(value) => Cell { at: (end - value.len()) as u32, len: value.len() as i32 },
+            None => Cell { at: end as u32, len: -1 },
+        }
+    }
+
+    /// Where the value lies in the body, or `None` where it is NULL.
+    #[inline]
+    pub fn range(&self) -> Option<Range<usize>> {
+        let (start, length) = (self.at as usize, usize::try_from(self.len).ok()?);
+        Some(start..start + length)
+    }
+
+    /// The value in the body that the cell was read of, or `None` where it is NULL, or where another
+    /// body is too short for it.
+    #[inline]
+    pub fn value<'b>(&self, body: &'b [u8]) -> Option<&'b [u8]> {
+        body.get(self.range()?)
+    }
+
+    /// The value in the body that the cell was read of, or `None` where it is NULL: its length is beyond every body
+    /// then, without its sign.
+    #[inline]
+    fn value_in<'b>(&self, body: &'b [u8]) -> Option<&'b [u8]> {
+        let start = self.at as usize;
+        body.get(start..start.wrapping_add(self.len.cast_unsigned() as usize))
+    }
+
+    /// Whether it is NULL.
+    #[inline]
+    pub fn is_null(&self) -> bool {
+        self.len < 0
+    }
 }
 
 /// Reads rows, and keeps the room for the places of their cells from one row to the next.
@@ -53,11 +100,14 @@ impl RowIndex {
     /// It allocates only for a row of more cells than any row before.
     #[inline]
     pub fn read<'b>(&mut self, body: &'b [u8]) -> Result<Row<'b, '_>, Fault> {
-        let mut reader = RowReader::new(checked(body)?)?;
+        let count = RowReader::new(checked(body)?)?.len();
         self.cells.clear();
-        self.cells.try_reserve(reader.len()).map_err(|_| Refusal::OutOfMemory)?;
-        while let Some(value) = reader.next_cell()? {
-            self.cells.push(Cell::new(body.len() - reader.rest().len(), value));
+        self.cells.try_reserve(count).map_err(|_| Refusal::OutOfMemory)?;
+        let mut at = FIRST_CELL;
+        for _ in 0..count {
+            let (value, end) = cell_at(body, at)?;
+            self.cells.push(Cell::new(end, value));
+            at = end;
         }
         Ok(Row { body, cells: &self.cells })
     }
@@ -93,8 +143,12 @@ impl<'b, 'r> Row<'b, 'r> {
 
     /// The cells in order.
     #[inline]
-    pub fn iter(&self) -> Cells<'b, 'r> {
-        Cells::new(self.body, self.cells)
+    pub fn iter(
+        &self,
+    ) -> impl DoubleEndedIterator<Item = Option<&'b [u8]>> + ExactSizeIterator + Clone + use<'b, 'r>
+    {
+        let body = self.body;
+        self.cells.iter().map(move |cell| cell.value_in(body))
     }
 
     /// The places of the cells in the body.
@@ -119,15 +173,5 @@ impl<'b, 'r> Row<'b, 'r> {
 impl fmt::Debug for Row<'_, '_> {
     fn fmt(&self, f: &mut fmt::Formatter<'_>) -> fmt::Result {
         f.debug_list().entries(self.iter()).finish()
-    }
-}
-
-impl<'b, 'r> IntoIterator for Row<'b, 'r> {
-    type Item = Option<&'b [u8]>;
-    type IntoIter = Cells<'b, 'r>;
-
-    #[inline]
-    fn into_iter(self) -> Cells<'b, 'r> {
-        self.iter()
     }
 }

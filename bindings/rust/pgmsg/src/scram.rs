@@ -18,7 +18,6 @@
 //! # Ok::<(), pgmsg::scram::Error>(())
 //! ```
 
-mod base64;
 mod client;
 mod digest;
 mod server;

@@ -22,10 +22,7 @@ const TAGS: &[u8] = b"RK23CdcGHWDIEnNAtS1sZTBFPQXfp!";
 
 /// Reads a body as a client's message. Whatever is taken is written as it was.
 fn read_of_client(tag: Option<u8>, body: &[u8]) {
-    let message = match checked(body, frontend::Message::read_body(tag, body)) {
-        Some(message) => message,
-        None => return,
-    };
+    let Some(message) = checked(body, frontend::Message::read_body(tag, body)) else { return };
     let mut out = Vec::new();
     assert_eq!(message.write(&mut out), Ok(()));
     assert_eq!(out[4 + usize::from(tag.is_some())..], *body);
@@ -34,10 +31,7 @@ fn read_of_client(tag: Option<u8>, body: &[u8]) {
 /// Reads a body as a server's message. Whatever is taken is written so that it is read as the same; and it
 /// is as it was, where nothing follows its parts.
 fn read_of_server(tag: u8, body: &[u8]) {
-    let message = match checked(body, backend::Message::read_body(Some(tag), body)) {
-        Some(message) => message,
-        None => return,
-    };
+    let Some(message) = checked(body, backend::Message::read_body(Some(tag), body)) else { return };
     let mut out = Vec::new();
     match message.write(&mut out) {
         Ok(()) => {
@@ -64,7 +58,7 @@ fn read_all(reader: &mut RowIndex, body: &[u8]) {
         let mut values = values.map(<[u8]>::as_ptr_range);
         assert!(values.all(|value| outer.start <= value.start && value.end <= outer.end));
         let ranges = row.places().iter().map(|place| place.range());
-        assert!(ranges.map(|range| Some(&body[range?])).eq(row));
+        assert!(ranges.map(|range| Some(&body[range?])).eq(row.iter()));
     }
     if let Some(initial) = checked(body, SaslInitialResponse::read(body)) {
         let mut out = Vec::new();

@@ -106,19 +106,6 @@ fn what_is_cut_off_or_changed_is_shown_or_refused() {
 }
 
 #[test]
-fn faults_have_a_class_and_an_offset() {
-    for (content, refusal, at) in [
-        (&b""[..], Refusal::Short, 0),
-        (b"O\0\0\0\0\0\0\0\0far", Refusal::MissingNul, 9),
-        (b"E!", Refusal::TrailingBytes, 1),
-        (b"I\0\0\0\x01X", Refusal::UnknownLetter, 0),
-        (b"I\0\0\0\x01N\0\x01t\0\0\0\x05four", Refusal::Short, 13),
-    ] {
-        assert_eq!(fault_of(LogicalMessage::read(content, false)), (refusal, at), "{content:?}");
-    }
-}
-
-#[test]
 fn what_is_given_is_written_or_refused() {
     let row = vec![OutboundDatum::of(Datum::Null); 65536];
     let insert = |count| {

@@ -114,3 +114,24 @@ fn a_server_may_send_the_minor_version_alone() {
     let newest = backend::NegotiateProtocolVersion::read(b"\0\0\0\x01\0\0\0\0");
     assert_eq!(newest.map(|it| it.minor), Ok(1));
 }
+
+#[test]
+fn the_last_setting_of_a_name_holds() {
+    let startup = frontend::Startup::new(&[("user", "ann"), ("options", ""), ("user", "bob")]);
+    assert_eq!(startup.settings.value("user"), Some("bob".into()));
+    assert_eq!(startup.settings.value("database"), None);
+    assert_eq!(startup.settings.into_vec().len(), 3);
+}
+
+#[test]
+fn codes_of_a_copy_below_zero_are_none() {
+    let read = backend::CopyResponse::read(b"\x01\xff\xff").expect("it is complete");
+    assert_eq!((read.format, read.columns.len()), (1, 0));
+}
+
+#[test]
+fn limits_of_an_execute() {
+    let limit = |max_rows| frontend::Execute { portal: "".into(), max_rows }.limit().map(u32::from);
+    let limits = [0, 1, i32::MAX as u32, 1 << 31, u32::MAX].map(limit);
+    assert_eq!(limits, [None, Some(1), Some(i32::MAX as u32), None, None]);
+}

@@ -5,7 +5,7 @@ mod common;
 
 use common::Numbers;
 use pgmsg::relay::*;
-use pgmsg::{Fault, Refusal};
+use pgmsg::{Decoder, Fault, Next, Refusal};
 
 /// The most bytes of a message that is taken whole.
 const LIMIT: usize = 1 << 16;
@@ -16,20 +16,6 @@ const FIRSTS: [&[u8]; 2] = [b"\0\0\0\x08\x04\xd2\x16\x2f", b"\0\0\0\x12\0\x03\0\
 /// A server's stream of three messages.
 const STREAM: &[u8] = b"1\0\0\0\x04D\0\0\0\x06\0\0Z\0\0\0\x05I";
 
-/// Messages with tags, of which a few are of more bytes than a piece has.
-fn messages(numbers: &mut Numbers) -> Vec<Vec<u8>> {
-    let count = numbers.below(20);
-    let message = |_| {
-        let most = [1, 10, 300][numbers.below(3)];
-        let length = numbers.below(most);
-        let mut message = vec![numbers.byte()];
-        message.extend((length as u32 + 4).to_be_bytes());
-        message.extend(numbers.bytes(length));
-        message
-    };
-    (0..count).map(message).collect()
-}
-
 /// A random choice of tags.
 fn wanted(numbers: &mut Numbers) -> Wanted {
     match numbers.below(4) {
@@ -39,64 +25,37 @@ fn wanted(numbers: &mut Numbers) -> Wanted {
     }
 }
 
-/// The pieces of a stream, each of up to so many bytes.
-fn pieces<'a>(stream: &'a [u8], most: usize, numbers: &mut Numbers) -> Vec<&'a [u8]> {
-    let (mut pieces, mut left) = (Vec::new(), stream);
-    while !left.is_empty() {
-        let (piece, after) = left.split_at(numbers.below(left.len().min(most) + 1));
-        pieces.push(piece);
-        left = after;
-    }
-    pieces
-}
-
 #[test]
-fn random_messages_in_random_pieces_pass_unchanged() {
+fn random_streams_pass_unchanged_and_messages_that_are_wanted_come_whole() {
     let mut numbers = Numbers::new(0x9e37_79b9_7f4a_7c15);
-    for turn in 0..800 {
-        let (wanted, messages) = (wanted(&mut numbers), messages(&mut numbers));
-        let (mut relay, mut firsts) = (Relay::of_server(LIMIT, wanted), Vec::new());
+    for turn in 0..2000 {
+        let (wanted, mut stream) = (wanted(&mut numbers), Vec::new());
+        let (mut relay, mut decoder) = (Relay::of_server(LIMIT, wanted), Decoder::of_server());
         if turn % 2 == 1 {
-            relay = Relay::of_client(LIMIT, wanted);
-            firsts = vec![FIRSTS[0].to_vec(); numbers.below(3)];
-            firsts.push(FIRSTS[1].to_vec());
+            (relay, decoder) = (Relay::of_client(LIMIT, wanted), Decoder::of_client());
+            stream = [FIRSTS[0].repeat(numbers.below(3)), FIRSTS[1].to_vec()].concat();
         }
-        let stream = [firsts.concat(), messages.concat()].concat();
-        let most = numbers.below(100) + 1;
-        let (mut out, mut whole) = (Vec::new(), Vec::new());
-        for piece in pieces(&stream, most, &mut numbers) {
-            let passed = relay.pass(piece, &mut out, |frame| {
+        stream.extend(numbers.stream(b"QDdH"));
+        let (mut out, mut whole, mut came, mut passed) = (Vec::new(), Vec::new(), 0, Ok(()));
+        for piece in stream.chunks(numbers.below(40) + 1) {
+            came += piece.len();
+            passed = relay.pass(piece, &mut out, |frame| {
                 whole.push(frame.bytes.to_vec());
                 Ok(Answer::Keep)
             });
-            passed.expect("no fault");
-        }
-        assert_eq!(out, stream);
-        let due = messages.iter().filter(|it| wanted.wants(it[0]));
-        assert!(whole.iter().eq(firsts.iter().chain(due)));
-        assert_eq!((relay.held(), relay.left(), relay.expects_first()), (&b""[..], 0, false));
-    }
-}
-
-#[test]
-fn bytes_of_any_kind_go_out_or_are_held_or_refused() {
-    let mut numbers = Numbers::new(0x9e37_79b9_7f4a_7c17);
-    for turn in 0..2000 {
-        let stream = numbers.stream(b"QDdZ\0");
-        let make = if turn % 2 == 0 { Relay::of_client } else { Relay::of_server };
-        let mut relay = make(40, wanted(&mut numbers));
-        let (mut out, mut came, mut passed) = (Vec::new(), Vec::new(), Ok(()));
-        for piece in pieces(&stream, 12, &mut numbers) {
-            came.extend(piece);
-            passed = relay.pass(piece, &mut out, |_| Ok(Answer::Keep));
             if passed.is_err() {
                 break;
             }
         }
         out.extend(relay.held());
-        assert!(came.starts_with(&out));
-        assert!(passed.is_err() || came == out);
-        assert!(relay.held().len() < 40);
+        assert!(stream[..came].starts_with(&out));
+        assert!(passed.is_err() || out == stream);
+        let (mut rest, mut due) = (&stream[..], Vec::new());
+        while let Ok(Next::Frame(frame)) = decoder.next(rest) {
+            due.extend(Some(frame.bytes).filter(|_| frame.tag.is_none_or(|tag| wanted.wants(tag))));
+            rest = &rest[frame.bytes.len()..];
+        }
+        assert!(whole.starts_with(&due.iter().map(|it| it.to_vec()).collect::<Vec<_>>()));
     }
 }
 

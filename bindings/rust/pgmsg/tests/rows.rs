@@ -21,11 +21,7 @@ fn rows() {
     assert_eq!(row.get(1), Some(None));
     assert_eq!(row.get(3), None);
     assert_eq!(format!("{row:?}"), "[Some([97, 98]), None, Some([])]");
-    let mut count = 0;
-    for cell in row {
-        count += cell.map_or(0, <[u8]>::len);
-    }
-    assert_eq!((count, row.into_iter().len()), (2, 3));
+    assert_eq!(row.iter().len(), 3);
 }
 
 #[test]
@@ -37,7 +33,7 @@ fn places_of_cells() {
     assert!(row.places()[1].is_null() && !row.places()[2].is_null());
     let places = row.places().to_vec();
     let values = places.iter().map(|place| place.value(BODY));
-    assert!(values.eq(row));
+    assert!(values.eq(row.iter()));
     assert_eq!(places[0].value(b"too short"[..7].as_ref()), None);
 }
 
@@ -57,11 +53,4 @@ fn broken_rows() {
     let read = |body| fault_of(RowIndex::new().read(body).map(drop));
     assert_eq!(read(b"\0\x01\0\0\0"), (Refusal::Short, 2));
     assert_eq!(read(b"\0\x01\0\0\0\x02a"), (Refusal::Short, 6));
-}
-
-#[test]
-fn a_cell_of_any_length_below_zero_is_null() {
-    let mut reader = RowIndex::new();
-    let row = reader.read(b"\0\x01\x80\0\0\0").expect("the row is complete");
-    assert!(row.iter().eq([None]));
 }

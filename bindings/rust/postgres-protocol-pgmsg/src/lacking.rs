@@ -1,6 +1,6 @@
 //! What `pgmsg` doesn't write or read, by hand.
 
-use pgmsg::ByteStr;
+use pgmsg::{backend, ByteStr};
 use std::io;
 
 /// The bytes of a message before its body: its tag and its length.
@@ -29,21 +29,12 @@ pub(crate) fn with_list<T: Copy + Default, R>(
     take(&all)
 }
 
-/// Tests that a body ends where what was read of it does.
+/// Tests that a body ends where the message of a tag does.
 #[inline]
-pub(crate) fn ends(body: &[u8], end: usize) -> io::Result<()> {
-    if body.len() == end {
-        Ok(())
-    } else {
-        Err(refused("message body goes on after its last item"))
-    }
-}
-
-/// Tests that a body ends with the NUL of a list, right after the list's last item.
-pub(crate) fn ends_list(body: &[u8], end: usize) -> io::Result<()> {
-    match body.get(end..) {
-        Some([0]) => Ok(()),
-        _ => Err(refused("message body doesn't end where its list does")),
+pub(crate) fn ends(tag: u8, body: &[u8]) -> io::Result<()> {
+    match backend::end(tag, body)? == body.len() {
+        true => Ok(()),
+        false => Err(refused("message body goes on after its last item")),
     }
 }
 
@@ -51,12 +42,6 @@ pub(crate) fn ends_list(body: &[u8], end: usize) -> io::Result<()> {
 #[inline]
 pub(crate) fn text(text: ByteStr<'_>) -> io::Result<&str> {
     text.as_str().map_err(|_| refused("text is not UTF-8"))
-}
-
-/// The length of a text and of its NUL.
-#[inline]
-pub(crate) fn text_len(text: &[u8]) -> usize {
-    text.len() + 1
 }
 
 /// Tests that a body has so many bytes at least, such as the count that a list is read by later.

@@ -98,12 +98,6 @@ impl<'a> Authentication<'a> {
     /// empty.
     pub fn write<B: Buffer>(&self, out: &mut B) -> Result<(), Refusal> {
         let content = match self {
-            Authentication::Ok
-            | Authentication::KerberosV5
-            | Authentication::CleartextPassword
-            | Authentication::ScmCredential
-            | Authentication::Gss
-            | Authentication::Sspi => b"",
             Authentication::Md5Password(salt) => &salt[..],
             Authentication::Sasl(mechanisms) => {
                 return put_answer(&OutboundSasl { mechanisms }, out)
@@ -112,6 +106,7 @@ impl<'a> Authentication<'a> {
             | Authentication::SaslContinue(data)
             | Authentication::SaslFinal(data)
             | Authentication::Other(_, data) => data.0,
+            _ => b"",
         };
         put_sound(b'R', Then(Number32(self.method()), Slice(content)), Ok(()), out)
     }

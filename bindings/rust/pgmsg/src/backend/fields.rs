@@ -161,17 +161,13 @@ impl<'a> Fields<'a> {
     /// # Ok::<(), pgmsg::Fault>(())
     /// ```
     pub fn severity(&self) -> Result<Severity, Fault> {
-        let independent = FieldKind::Severity.letter();
-        let letter = match self.iter().any(|field| field.letter == independent) {
-            true => independent,
-            false => FieldKind::LocalizedSeverity.letter(),
+        let of = |kind: FieldKind| self.iter().filter(move |field| field.letter == kind.letter());
+        let kind = match of(FieldKind::Severity).next() {
+            Some(_) => FieldKind::Severity,
+            None => FieldKind::LocalizedSeverity,
         };
-        let mut body = Vec::new();
-        for field in self.iter().filter(|field| field.letter == letter) {
-            body.push(field.letter);
-            body.extend_from_slice(&field.value);
-            body.push(0);
-        }
+        let fields = of(kind).map(|field| [&[field.letter], &field.value[..], b"\0"].concat());
+        let body: Vec<u8> = fields.flatten().collect();
         Severity::read(&body)
     }
 }

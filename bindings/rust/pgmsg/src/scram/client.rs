@@ -1,6 +1,6 @@
 //! The client's side.
 
-use super::{base64, covered, is_nonce, is_same, without_proof, xor};
+use super::{covered, is_nonce, is_same, without_proof, xor};
 use super::{Digest, Error, Key, MAX_ITERATIONS, SCRAM_SHA_256, SCRAM_SHA_256_PLUS};
 use crate::backend::Authentication;
 use crate::buffer::Buffer;
@@ -193,10 +193,7 @@ impl<'a, D: Digest> Client<'a, D> {
 
     /// Takes the server's signature.
     pub fn finish(&mut self, last: &[u8]) -> Result<(), Error> {
-        let signature = match self.state {
-            State::Signature(signature) => signature,
-            _ => return Err(Error::OutOfTurn),
-        };
+        let State::Signature(signature) = self.state else { return Err(Error::OutOfTurn) };
         if !is_same(&signature, &read_verifier(last)?) {
             return Err(Error::WrongVerifier);
         }

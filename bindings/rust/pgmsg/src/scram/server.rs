@@ -1,7 +1,7 @@
 //! The server's side.
 
 use super::client::read_verifier;
-use super::{base64, covered, is_nonce, is_same, without_proof, xor};
+use super::{covered, is_nonce, is_same, without_proof, xor};
 use super::{Digest, Error, Key};
 use alloc::format;
 use alloc::string::String;
@@ -102,10 +102,7 @@ impl<'a, D: Digest> Server<'a, D> {
 
     /// Tests the client's proof. What it gives shows the client that the server knows the password too.
     pub fn verify(&mut self, answer: &[u8]) -> Result<Vec<u8>, Error> {
-        let (due, messages) = match &self.state {
-            State::Proof { due, messages } => (due, messages),
-            _ => return Err(Error::OutOfTurn),
-        };
+        let State::Proof { due, messages } = &self.state else { return Err(Error::OutOfTurn) };
         let proof = answer.strip_prefix(due.as_bytes());
         let proof = proof.and_then(|rest| rest.strip_prefix(b",p=")).ok_or(Error::WrongProof)?;
         let proof = read_verifier(&[b"v=", proof].concat())?;

@@ -17,10 +17,7 @@ pub fn fault_of<T>(result: Result<T, Fault>) -> (Refusal, usize) {
 
 /// The value of a result, or `None` where it is a fault, of which the words and the offset are sound.
 pub fn checked<T>(bytes: &[u8], result: Result<T, Fault>) -> Option<T> {
-    let fault = match result {
-        Ok(value) => return Some(value),
-        Err(fault) => fault,
-    };
+    let Err(fault) = result else { return result.ok() };
     assert!(fault.at <= bytes.len(), "{fault:?} of {bytes:?}");
     assert!(!fault.words.is_empty() && fault.words.is_ascii());
     None

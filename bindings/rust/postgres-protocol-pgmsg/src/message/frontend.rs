@@ -1,18 +1,16 @@
 //! Messages to the server. Each call appends one to a buffer.
 
 mod bind;
-mod copy;
 
 pub use bind::bind;
-pub use copy::{copy_done, copy_fail, CopyData};
 pub use original::message::frontend::BindError;
 
 use crate::lacking::{refused, with_list};
 use crate::Oid;
-use bytes::BytesMut;
+use bytes::{Buf, BufMut, BytesMut};
 use pgmsg::frontend::{
-    CancelRequest, Execute, Message, Parse, Password, PasswordMessage, SaslInitialResponse,
-    Startup, Target,
+    copy_head, CancelRequest, Execute, Message, Parse, Password, PasswordMessage,
+    SaslInitialResponse, Startup, Target,
 };
 use pgmsg::Refusal;
 use std::io;
@@ -35,6 +33,40 @@ pub fn cancel_request(process_id: i32, secret_key: i32, buf: &mut BytesMut) {
 #[inline]
 pub fn close(variant: u8, name: &str, buf: &mut BytesMut) -> io::Result<()> {
     Ok(Message::Close(target(variant, name)?).write(buf)?)
+}
+
+/// Data of a COPY, which is copied once, to where it is sent from.
+pub struct CopyData<T> {
+    head: [u8; 5],
+    data: T,
+}
+
+impl<T: Buf> CopyData<T> {
+    /// Takes the data, which is refused where no message can be as long.
+    #[inline]
+    pub fn new(buf: T) -> io::Result<CopyData<T>> {
+        Ok(CopyData { head: copy_head(buf.remaining())?, data: buf })
+    }
+
+    /// Appends the message: CopyData.
+    #[inline]
+    pub fn write(self, out: &mut BytesMut) {
+        out.reserve(self.head.len() + self.data.remaining());
+        out.put_slice(&self.head);
+        out.put(self.data);
+    }
+}
+
+/// Ends the data of a COPY: CopyDone.
+#[inline]
+pub fn copy_done(buf: &mut BytesMut) {
+    surely(Message::CopyDone.write(buf));
+}
+
+/// Makes a COPY fail, for this reason: CopyFail.
+#[inline]
+pub fn copy_fail(message: &str, buf: &mut BytesMut) -> io::Result<()> {
+    Ok(Message::CopyFail(message.into()).write(buf)?)
 }
 
 /// Describes a statement, by the variant `S`, or a portal, by `P`: Describe.

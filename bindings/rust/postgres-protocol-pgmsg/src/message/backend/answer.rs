@@ -1,7 +1,7 @@
 //! A message by its tag.
 
 use super::*;
-use crate::lacking::refused;
+use crate::lacking::{ends, refused};
 use bytes::Bytes;
 use pgmsg::backend;
 
@@ -22,11 +22,11 @@ pub(super) fn take(tag: u8, length: usize, buf: &mut BytesMut) -> io::Result<Opt
         }
         READY_FOR_QUERY_TAG => Message::ReadyForQuery(pass(buf, length, ReadyForQueryBody::read)?),
         BIND_COMPLETE_TAG => {
-            pass(buf, length, |body| empty(BIND_COMPLETE_TAG, body))?;
+            pass(buf, length, |body| ends(BIND_COMPLETE_TAG, body))?;
             Message::BindComplete
         }
         PARSE_COMPLETE_TAG => {
-            pass(buf, length, |body| empty(PARSE_COMPLETE_TAG, body))?;
+            pass(buf, length, |body| ends(PARSE_COMPLETE_TAG, body))?;
             Message::ParseComplete
         }
         _ => return read(tag, body(buf, length)).map(Some),
@@ -50,13 +50,6 @@ fn pass<T>(buf: &mut BytesMut, length: usize, read: fn(&[u8]) -> io::Result<T>) 
     read
 }
 
-/// Reads the body of a message that has none.
-#[inline]
-fn empty(tag: u8, body: &[u8]) -> io::Result<()> {
-    backend::Message::read_body(Some(tag), body)?;
-    Ok(())
-}
-
 /// Reads the body of a message of any other tag.
 #[cold]
 fn read(tag: u8, body: Bytes) -> io::Result<Message> {
@@ -70,7 +63,7 @@ fn read(tag: u8, body: Bytes) -> io::Result<Message> {
         PARAMETER_DESCRIPTION_TAG => {
             Message::ParameterDescription(ParameterDescriptionBody::read(body)?)
         }
-        PARAMETER_STATUS_TAG => Message::ParameterStatus(ParameterStatusBody::read(&body)?),
+        PARAMETER_STATUS_TAG => Message::ParameterStatus(ParameterStatusBody::read(body)?),
         ROW_DESCRIPTION_TAG => Message::RowDescription(RowDescriptionBody::read(body)?),
         _ => match backend::Message::read_body(Some(tag), &body)? {
             backend::Message::CloseComplete => Message::CloseComplete,

@@ -1,9 +1,9 @@
 //! What the server asks of a client that opens a session.
 
-use super::body::{body, getters};
+use super::body::body;
 use super::items::Items;
-use super::Message;
-use crate::lacking::{ends, ends_list, refused, text, text_len};
+use super::{Message, AUTHENTICATION_TAG};
+use crate::lacking::{ends, refused, text};
 use bytes::Bytes;
 use pgmsg::backend::Authentication;
 use std::io;
@@ -14,16 +14,16 @@ const METHOD: usize = 4;
 /// Reads the body of an Authentication.
 pub(super) fn read(body: Bytes) -> io::Result<Message> {
     let method = Authentication::read(&body)?.method();
-    let fixed = |length, message| ends(&body, length).map(|()| message);
+    let alone = |message| ends(AUTHENTICATION_TAG, &body).map(|()| message);
     match method {
-        0 => fixed(METHOD, Message::AuthenticationOk),
-        2 => fixed(METHOD, Message::AuthenticationKerberosV5),
-        3 => fixed(METHOD, Message::AuthenticationCleartextPassword),
-        5 => AuthenticationMd5PasswordBody::read(&body).map(Message::AuthenticationMd5Password),
-        6 => fixed(METHOD, Message::AuthenticationScmCredential),
-        7 => fixed(METHOD, Message::AuthenticationGss),
+        0 => alone(Message::AuthenticationOk),
+        2 => alone(Message::AuthenticationKerberosV5),
+        3 => alone(Message::AuthenticationCleartextPassword),
+        5 => AuthenticationMd5PasswordBody::read(body).map(Message::AuthenticationMd5Password),
+        6 => alone(Message::AuthenticationScmCredential),
+        7 => alone(Message::AuthenticationGss),
         8 => AuthenticationGssContinueBody::read(body).map(Message::AuthenticationGssContinue),
-        9 => fixed(METHOD, Message::AuthenticationSspi),
+        9 => alone(Message::AuthenticationSspi),
         10 => AuthenticationSaslBody::read(body).map(Message::AuthenticationSasl),
         11 => AuthenticationSaslContinueBody::read(body).map(Message::AuthenticationSaslContinue),
         12 => AuthenticationSaslFinalBody::read(body).map(Message::AuthenticationSaslFinal),
@@ -31,25 +31,11 @@ pub(super) fn read(body: Bytes) -> io::Result<Message> {
     }
 }
 
-/// The salt of the digest of a password.
-pub struct AuthenticationMd5PasswordBody {
-    salt: [u8; 4],
-}
-
-impl AuthenticationMd5PasswordBody {
-    fn read(body: &[u8]) -> io::Result<AuthenticationMd5PasswordBody> {
-        match Authentication::read(body)? {
-            Authentication::Md5Password(salt) => {
-                ends(body, METHOD + salt.len())?;
-                Ok(AuthenticationMd5PasswordBody { salt })
-            }
-            _ => Err(refused("not a request for an MD5 digest")),
-        }
-    }
-
-    getters! {
+body! {
+    /// The salt of the digest of a password.
+    AuthenticationMd5PasswordBody as b'R', {
         /// The salt.
-        salt(self) -> [u8; 4] = self.salt;
+        salt(self) -> [u8; 4] = self.0.last_chunk().copied().unwrap_or_default();
     }
 }
 
@@ -95,8 +81,7 @@ pub type SaslMechanisms<'a> = Items<'a, &'a str>;
 fn mechanisms(body: &[u8]) -> io::Result<Vec<&str>> {
     match Authentication::read(body)? {
         Authentication::Sasl(mechanisms) => {
-            let texts: usize = mechanisms.iter().map(|it| text_len(it)).sum();
-            ends_list(body, METHOD + texts)?;
+            ends(AUTHENTICATION_TAG, body)?;
             mechanisms.iter().map(|&it| text(it)).collect()
         }
         _ => Err(refused("not an offer of mechanisms")),

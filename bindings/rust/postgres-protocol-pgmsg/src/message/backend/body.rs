@@ -13,16 +13,23 @@ macro_rules! getters {
     };
 }
 
-/// Makes a body of so many bytes at least, with getters of what it holds.
+/// Makes a body of so many bytes at least, or one that the message of a tag fills, with getters of what it holds.
 macro_rules! body {
-    ($(#[$doc:meta])* $name:ident of $least:expr, { $($getters:tt)* }) => {
+    ($(#[$doc:meta])* $name:ident of $least:expr, $getters:tt) => {
+        body! { @ $(#[$doc])* $name, |body| crate::lacking::has(body, $least), $getters }
+    };
+    ($(#[$doc:meta])* $name:ident as $tag:literal, $getters:tt) => {
+        body! { @ $(#[$doc])* $name, |body| crate::lacking::ends($tag, body), $getters }
+    };
+    (@ $(#[$doc:meta])* $name:ident, $check:expr, { $($getters:tt)* }) => {
         $(#[$doc])*
         pub struct $name(bytes::Bytes);
 
         impl $name {
             #[inline]
             pub(super) fn read(body: bytes::Bytes) -> std::io::Result<$name> {
-                crate::lacking::has(&body, $least)?;
+                let check: fn(&[u8]) -> std::io::Result<()> = $check;
+                check(&body)?;
                 Ok($name(body))
             }
 

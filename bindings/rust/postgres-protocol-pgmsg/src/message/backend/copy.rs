@@ -60,6 +60,6 @@ fn column_formats(body: &[u8]) -> io::Result<Vec<u16>> {
     if body[1] > 0x7f {
         return Err(refused("more columns than a table can have"));
     }
-    ends(body, COUNTED + 2 * columns.len())?;
+    ends(b'G', body)?;
     Ok(columns.iter().map(|format| format.0 as u16).collect())
 }

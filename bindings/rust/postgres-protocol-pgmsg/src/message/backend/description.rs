@@ -2,16 +2,13 @@
 
 use super::body::{body, getters};
 use super::items::Items;
-use crate::lacking::{ends, refused, text, text_len};
+use crate::lacking::{ends, refused, text};
 use crate::Oid;
 use pgmsg::backend::{self, Column};
 use std::io;
 
 /// The bytes of the count before a list.
 const COUNT: usize = 2;
-
-/// The bytes of a column after its name.
-const NUMBERS: usize = 18;
 
 body! {
     /// The columns of a result.
@@ -29,8 +26,7 @@ fn fields(body: &[u8]) -> io::Result<Vec<Field<'_>>> {
         backend::Message::RowDescription(columns) => columns,
         _ => return Err(refused("not the columns of a result")),
     };
-    let lengths = columns.iter().map(|it| text_len(&it.name) + NUMBERS);
-    ends(body, COUNT + lengths.sum::<usize>())?;
+    ends(b'T', body)?;
     let fields = columns.iter().map(|&column| {
         let name = text(column.name)?;
         Ok(Field { name, column })
@@ -79,6 +75,6 @@ fn parameters(body: &[u8]) -> io::Result<Vec<Oid>> {
         backend::Message::ParameterDescription(types) => types,
         _ => return Err(refused("not the types of parameters")),
     };
-    ends(body, COUNT + 4 * types.len())?;
+    ends(b't', body)?;
     Ok(types.into_vec())
 }

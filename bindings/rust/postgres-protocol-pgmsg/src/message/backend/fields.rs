@@ -2,7 +2,7 @@
 
 use super::body::{body, getters};
 use super::items::Items;
-use crate::lacking::{ends_list, text, text_len};
+use crate::lacking::{ends, text};
 use pgmsg::backend::Fields;
 use std::io;
 
@@ -42,8 +42,7 @@ impl<'a> ErrorField<'a> {
 
 fn error_fields(body: &[u8]) -> io::Result<Vec<ErrorField<'_>>> {
     let fields = Fields::read(body)?;
-    let lengths = fields.iter().map(|field| 1 + text_len(&field.value));
-    ends_list(body, lengths.sum())?;
+    ends(b'E', body)?;
     let fields = fields.iter().map(|field| {
         let value = text(field.value)?;
         let letter = field.letter;

@@ -1,7 +1,7 @@
 //! The cells of a row.
 
 use super::body::body;
-use crate::lacking::{ends, refused};
+use crate::lacking::refused;
 use fallible_iterator::FallibleIterator;
 use pgmsg::backend::RowReader;
 use pgmsg::Fault;
@@ -42,7 +42,8 @@ impl FallibleIterator for DataRowRanges<'_> {
         match cell {
             // The buffer begins after the count.
             Some(cell) => Ok(Some(cell.map(|value| end - value.len() - COUNT..end - COUNT))),
-            None => ends(self.body, end).map(|()| None),
+            None if end == self.body.len() => Ok(None),
+            None => Err(refused("row goes on after its last cell")),
         }
     }
 

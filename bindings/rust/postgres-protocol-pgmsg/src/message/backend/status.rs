@@ -1,19 +1,11 @@
 //! What a session and a command report of themselves.
 
-use super::body::getters;
-use crate::lacking::{ends, refused, text, text_len};
-use bytes::{Buf, Bytes};
-use pgmsg::backend::{
-    self, BackendKeyData, NotificationResponse, ParameterStatus, TransactionStatus,
-};
+use super::body::{body, getters};
+use crate::lacking::{ends, refused, text};
+use bytes::Buf;
+use pgmsg::backend::{BackendKeyData, NotificationResponse, ParameterStatus, TransactionStatus};
 use pgmsg::ByteStr;
 use std::io;
-
-/// The bytes of a number.
-const NUMBER: usize = 4;
-
-/// The bytes of the end of a text.
-const NUL: usize = 1;
 
 /// What a request to cancel has to name.
 pub struct BackendKeyDataBody {
@@ -40,80 +32,33 @@ impl BackendKeyDataBody {
     }
 }
 
-/// The end of a command.
-pub struct CommandCompleteBody {
-    storage: Bytes,
-}
-
-impl CommandCompleteBody {
-    #[inline]
-    pub(super) fn read(mut storage: Bytes) -> io::Result<CommandCompleteBody> {
-        let length = match backend::Message::read_body(Some(b'C'), &storage)? {
-            backend::Message::CommandComplete(tag) => tag.len(),
-            _ => return Err(refused("not the end of a command")),
-        };
-        ends(&storage, length + NUL)?;
-        storage.truncate(length);
-        Ok(CommandCompleteBody { storage })
-    }
-
-    getters! {
+body! {
+    /// The end of a command.
+    CommandCompleteBody as b'C', {
         /// The name of the command, and how many rows it had to do with.
-        tag(self) -> io::Result<&str> = text(ByteStr(&self.storage));
+        tag(self) -> io::Result<&str> = text(ByteStr(self.0.strip_suffix(b"\0").unwrap_or_default()));
     }
 }
 
-/// A notification from another session.
-pub struct NotificationResponseBody {
-    process_id: i32,
-    channel: Bytes,
-    message: Bytes,
-}
-
-impl NotificationResponseBody {
-    pub(super) fn read(mut body: Bytes) -> io::Result<NotificationResponseBody> {
-        let read = NotificationResponse::read(&body)?;
-        let (process_id, channel, message) = (read.process_id, read.channel, read.payload);
-        ends(&body, NUMBER + text_len(&channel) + text_len(&message))?;
-        let (channel, message) = (channel.len(), message.len());
-        body.advance(NUMBER);
-        let channel = body.split_to(channel);
-        body.advance(NUL);
-        body.truncate(message);
-        Ok(NotificationResponseBody { process_id: process_id as i32, channel, message: body })
-    }
-
-    getters! {
+body! {
+    /// A notification from another session.
+    NotificationResponseBody as b'A', {
         /// The process of the session that sent it.
-        process_id(self) -> i32 = self.process_id;
+        process_id(self) -> i32 = (&self.0[..]).get_i32();
         /// The name of the channel.
-        channel(self) -> io::Result<&str> = text(ByteStr(&self.channel));
+        channel(self) -> io::Result<&str> = text(NotificationResponse::read(&self.0)?.channel);
         /// What the sender passed on.
-        message(self) -> io::Result<&str> = text(ByteStr(&self.message));
+        message(self) -> io::Result<&str> = text(NotificationResponse::read(&self.0)?.payload);
     }
 }
 
-/// A setting of the server and its value.
-pub struct ParameterStatusBody {
-    name: Bytes,
-    value: Bytes,
-}
-
-impl ParameterStatusBody {
-    pub(super) fn read(body: &Bytes) -> io::Result<ParameterStatusBody> {
-        let read = ParameterStatus::read(body)?;
-        ends(body, text_len(&read.name) + text_len(&read.value))?;
-        Ok(ParameterStatusBody {
-            name: body.slice_ref(&read.name),
-            value: body.slice_ref(&read.value),
-        })
-    }
-
-    getters! {
+body! {
+    /// A setting of the server and its value.
+    ParameterStatusBody as b'S', {
         /// The name of the setting.
-        name(self) -> io::Result<&str> = text(ByteStr(&self.name));
+        name(self) -> io::Result<&str> = text(ParameterStatus::read(&self.0)?.name);
         /// Its value.
-        value(self) -> io::Result<&str> = text(ByteStr(&self.value));
+        value(self) -> io::Result<&str> = text(ParameterStatus::read(&self.0)?.value);
     }
 }
 
@@ -126,7 +71,7 @@ impl ReadyForQueryBody {
     #[inline]
     pub(super) fn read(body: &[u8]) -> io::Result<ReadyForQueryBody> {
         let status = TransactionStatus::read(body)?.letter();
-        ends(body, 1)?;
+        ends(b'Z', body)?;
         Ok(ReadyForQueryBody { status })
     }
 
