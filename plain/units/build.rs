@@ -7,13 +7,14 @@ use std::path::Path;
 use std::{fs, io, process};
 
 /// The modules of this crate, and where their sources are.
-const MODULES: [(&str, &str); 11] = [
+const MODULES: [(&str, &str); 12] = [
     ("pg_base_tests", "crates/pg_base/tests"),
     ("pg_send_tests", "crates/pg_send/tests"),
     ("pg_receive_tests", "crates/pg_receive/tests"),
     ("pg_server_tests", "crates/pg_server/tests"),
     ("pg_replication_tests", "crates/pg_replication/tests"),
     ("pg_frames_tests", "crates/pg_frames/tests"),
+    ("pg_flow_tests", "crates/pg_flow/tests"),
     ("examples", "crates/examples/src"),
     ("examples_tests", "crates/examples/tests"),
     ("memory", "tests/memory"),

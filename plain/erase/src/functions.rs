@@ -243,16 +243,9 @@ impl<'a> Eraser<'a> {
             return self.refuse("a test takes `rt: HostRuntime`");
         }
         let name = self.tokens[signature.name];
-        let answer = self.source
-            [self.tokens[signature.parameters.end].end()..self.tokens[signature.end].at]
-            .trim();
-        let answer = if answer.is_empty() { String::new() } else { format!(" {answer}") };
         self.edits.replace(
             name.at..name.end(),
-            format!(
-                "{0}(){answer} {{\n    rattle::test::run({0}_with)\n}}\n\nfn {0}_with",
-                name.text
-            ),
+            format!("{0}() {{\n    rattle::test::run({0}_with)\n}}\n\nfn {0}_with", name.text),
         );
         self.prelude.insert(RUNTIME);
         Ok(())
@@ -361,7 +354,7 @@ mod tests {
     fn tests_and_programs() {
         assert_eq!(
             erased("#[test]\nfn t(rt: HostRuntime) -> Result<(), E> {\n    x\n}\n"),
-            "use rattle::prelude::HostRuntime;\n\n#[test]\nfn t() -> Result<(), E> {\n    rattle::test::run(t_with)\n}\n\n\
+            "use rattle::prelude::HostRuntime;\n\n#[test]\nfn t() {\n    rattle::test::run(t_with)\n}\n\n\
              fn t_with(rt: HostRuntime) -> Result<(), E> {\n    x\n}\n"
         );
         assert_eq!(

@@ -5,7 +5,7 @@ use std::path::{Path, PathBuf};
 use std::{env, fs, process};
 
 /// The crates that messages need, from the lowest to the highest, which has all public names.
-pub const CRATES: [&str; 8] = [
+pub const CRATES: [&str; 9] = [
     "pg_base",
     "pg_format",
     "pg_send",
@@ -13,6 +13,7 @@ pub const CRATES: [&str; 8] = [
     "pg_server",
     "pg_replication",
     "pg_frames",
+    "pg_flow",
     "pg_message",
 ];
 

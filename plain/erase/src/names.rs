@@ -16,7 +16,7 @@ const OF_CORE: [&str; 11] =
     ["cell", "cmp", "error", "fmt", "iter", "marker", "mem", "num", "ops", "slice", "str"];
 
 /// Modules of std that the stand-in has.
-const OF_RATTLE: [&str; 6] = ["alloc", "env", "io", "process", "simd", "test"];
+const OF_RATTLE: [&str; 7] = ["alloc", "collections", "env", "io", "process", "simd", "test"];
 
 /// Crates of the toolchain, which the stand-in has as modules.
 const CRATES: [&str; 7] = ["base64", "byteorder", "bytes", "hex", "itoa", "memchr", "smallvec"];

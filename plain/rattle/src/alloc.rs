@@ -11,7 +11,7 @@ pub struct Global;
 pub struct AllocError;
 
 /// Memory was refused to a call that took a value, which it gives back.
-#[derive(Clone, Copy, Debug, PartialEq, Eq)]
+#[derive(Clone, Copy, PartialEq, Eq)]
 pub struct AllocFailed<T> {
     /// What the call took.
     pub value: T,
@@ -27,6 +27,13 @@ impl<T> From<AllocFailed<T>> for AllocError {
 impl fmt::Display for AllocError {
     fn fmt(&self, f: &mut fmt::Formatter<'_>) -> fmt::Result {
         f.write_str("out of memory")
+    }
+}
+
+/// Shows nothing of the value.
+impl<T> fmt::Debug for AllocFailed<T> {
+    fn fmt(&self, f: &mut fmt::Formatter<'_>) -> fmt::Result {
+        f.debug_struct("AllocFailed").finish_non_exhaustive()
     }
 }
 

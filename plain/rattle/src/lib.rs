@@ -14,6 +14,7 @@ extern crate std;
 pub mod alloc;
 pub mod base64;
 pub mod bytes;
+pub mod collections;
 #[cfg(feature = "std")]
 pub mod env;
 pub mod ffi;

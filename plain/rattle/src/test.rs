@@ -2,7 +2,8 @@
 
 use crate::alloc::Global;
 use core::fmt;
-use rust_alloc::string::{String, ToString};
+use rust_alloc::format;
+use rust_alloc::string::String;
 use rust_alloc::vec::Vec;
 
 /// What a test and a program are handed.
@@ -51,18 +52,33 @@ impl Alloc for HostRuntime {
     }
 }
 
-/// What ends a test early.
+/// What ends a test early: an error of any type.
 pub struct Fail(String);
 
-impl<E: fmt::Display> From<E> for Fail {
+impl<E: fmt::Debug> From<E> for Fail {
     fn from(error: E) -> Self {
-        Fail(error.to_string())
+        Fail(format!("{error:?}"))
     }
 }
 
-impl fmt::Debug for Fail {
-    fn fmt(&self, f: &mut fmt::Formatter<'_>) -> fmt::Result {
-        f.write_str(&self.0)
+/// What a test gives back.
+pub trait Outcome {
+    /// Ends in a panic where the test has ended early.
+    fn expect_done(self);
+}
+
+impl Outcome for () {
+    fn expect_done(self) {}
+}
+
+impl<E> Outcome for Result<(), E>
+where
+    Fail: From<E>,
+{
+    fn expect_done(self) {
+        if let Err(error) = self {
+            panic!("{}", Fail::from(error).0);
+        }
     }
 }
 
@@ -74,8 +90,8 @@ pub const ORDER: usize = 0x5245_4655_5347_0000;
 const MOST: usize = 300;
 
 /// Runs a test with its first request for memory refused, then with its second and so on; it may end with an error then.
-/// Lastly it runs with none refused. An allocator that takes no orders refuses none.
-pub fn run<T>(test: fn(HostRuntime) -> T) -> T {
+/// Lastly it runs with none refused, and may not. An allocator that takes no orders refuses none.
+pub fn run<T: Outcome>(test: fn(HostRuntime) -> T) {
     for nth in 1..=MOST {
         is_granted(ORDER + nth);
         test(HostRuntime);
@@ -83,7 +99,7 @@ pub fn run<T>(test: fn(HostRuntime) -> T) -> T {
             break;
         }
     }
-    test(HostRuntime)
+    test(HostRuntime).expect_done();
 }
 
 fn is_granted(size: usize) -> bool {
