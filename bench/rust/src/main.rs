@@ -88,6 +88,25 @@ fn rows(count: usize, cells: usize) -> Vec<u8> {
     stream
 }
 
+/// Messages with a `Connection`, and without.
+fn followed(out: &mut Vec<u8>, index: &mut RowIndex) {
+    println!("\n| session | with a Connection, ns | without, ns | quotient |");
+    println!("|---|---|---|---|");
+    let (mut buffer, mut others) = (Vec::new(), RowIndex::new());
+    for cells in [1, 5, 50] {
+        let (stream, mut connection) = (rows(200, cells), ours::in_rows());
+        let calls: [&mut dyn FnMut() -> usize; 2] = [
+            &mut || ours::read_of_request(&stream, &mut connection, out, index),
+            &mut || ours::read(&stream, &mut buffer, &mut others),
+        ];
+        compare(&format!("row of {cells} cells"), 200, calls);
+    }
+    let mut connection = pgmsg::Connection::ready();
+    let calls: [&mut dyn FnMut() -> usize; 2] =
+        [&mut || ours::followed(&mut connection, out), &mut || ours::pipeline(&mut buffer)];
+    compare("message of a pipeline", ours::PIPELINE, calls);
+}
+
 fn main() {
     println!(
         "| case | pgmsg, ns | drop-in, ns | postgres-protocol, ns | quotient | of the drop-in |"
@@ -125,6 +144,7 @@ fn main() {
         ];
         compare(&format!("Bind of {name}, Execute and Sync"), 1, calls);
     }
+    followed(&mut out, &mut index);
     println!("\n| message of a slot | pgmsg, ns | by hand, ns | quotient |");
     println!("|---|---|---|---|");
     for length in [8, 200] {

@@ -2,7 +2,8 @@
 
 use crate::Query;
 use pgmsg::backend::RowIndex;
-use pgmsg::frontend::{Bind, Execute, Message, Parse};
+use pgmsg::connection::{ClientSide, Connection, Heard};
+use pgmsg::frontend::{Bind, Execute, Message, Parse, Target};
 use pgmsg::replication::logical::{Datum, LogicalMessage};
 use pgmsg::{Decoder, Format, Next, Value};
 
@@ -16,6 +17,70 @@ pub fn read(stream: &[u8], buffer: &mut Vec<u8>, index: &mut RowIndex) -> usize 
         let row = index.read(frame.body()).expect("a row");
         sum += row.iter().flatten().map(<[u8]>::len).sum::<usize>();
         left = &left[frame.bytes.len()..];
+    }
+    sum
+}
+
+/// A connection to which a server sends rows.
+pub fn in_rows() -> Connection<ClientSide> {
+    let mut connection = Connection::ready();
+    connection.send(&Message::Query("TABLE t".into()), &mut Vec::new()).expect("a Query");
+    connection.receive(&mut &b"T\0\0\0\x06\0\0"[..]).expect("it comes first");
+    connection
+}
+
+/// Reads rows as [`read`] does, and whose each of them is.
+pub fn read_of_request(
+    stream: &[u8],
+    connection: &mut Connection<ClientSide>,
+    buffer: &mut Vec<u8>,
+    index: &mut RowIndex,
+) -> usize {
+    buffer.clear();
+    buffer.extend_from_slice(stream);
+    let (mut left, mut sum) = (&buffer[..], 0);
+    while let Some(answer) = connection.receive(&mut left).expect("a frame") {
+        assert_eq!(answer.whose, Heard::Answer { request: 0, is_last: false });
+        let row = index.read(answer.frame.body()).expect("a row");
+        sum += row.iter().flatten().map(<[u8]>::len).sum::<usize>();
+    }
+    sum
+}
+
+/// The requests of an extended query, and what answers them.
+const REQUESTS: [Message<'_>; 5] = [
+    Message::Describe(Target::Statement(pgmsg::ByteStr(b"s17"))),
+    Message::Describe(Target::Portal(pgmsg::ByteStr(b""))),
+    Message::Close(Target::Statement(pgmsg::ByteStr(b"s17"))),
+    Message::Close(Target::Portal(pgmsg::ByteStr(b""))),
+    Message::Sync,
+];
+const ANSWERS: &[u8] = b"t\0\0\0\x06\0\0n\0\0\0\x04n\0\0\0\x043\0\0\0\x043\0\0\0\x04Z\0\0\0\x05I";
+
+/// How many messages a pipeline has.
+pub const PIPELINE: u32 = 11;
+
+/// Writes requests and reads their answers: how many bytes both have.
+pub fn pipeline(out: &mut Vec<u8>) -> usize {
+    out.clear();
+    REQUESTS.iter().for_each(|request| request.write(out).expect("a request"));
+    let (mut decoder, mut left, mut sum) = (Decoder::of_server(), ANSWERS, out.len());
+    while let Next::Frame(frame) = decoder.next(left).expect("a frame") {
+        sum += frame.bytes.len();
+        left = &left[frame.bytes.len()..];
+    }
+    sum
+}
+
+/// The same in a session that is followed.
+pub fn followed(connection: &mut Connection<ClientSide>, out: &mut Vec<u8>) -> usize {
+    out.clear();
+    for request in &REQUESTS {
+        connection.send(request, out).expect("a request");
+    }
+    let (mut left, mut sum) = (ANSWERS, out.len());
+    while let Some(answer) = connection.receive(&mut left).expect("an answer") {
+        sum += answer.frame.bytes.len();
     }
     sum
 }

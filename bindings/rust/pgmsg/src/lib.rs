@@ -1,8 +1,9 @@
 //! Messages of the PostgreSQL wire protocol, version 3, as a client and a server send and receive them.
 //!
 //! This crate stands on the message layer of the project Tarnwhisk, `pgmsg_core`, whose sources are proved; here they
-//! are plain Rust without `unsafe`. It has no sockets and no state of a connection: a [`Decoder`] cuts a
-//! stream into its messages, without copying them; [`backend::Message`] and [`frontend::Message`] are any
+//! are plain Rust without `unsafe`. It has no sockets: a [`Decoder`] cuts a
+//! stream into its messages, without copying them; a [`Connection`] says which message may be sent now, and which
+//! request each answer is of; [`backend::Message`] and [`frontend::Message`] are any
 //! message of a server and of a client, borrowed of its bytes, to be read and to be written; a
 //! [`relay::Relay`] passes the bytes of either side on; [`replication::Message`] is what a CopyData says of the log
 //! or of a backup; [`scram`] answers for the password.
@@ -53,6 +54,7 @@ mod buffer;
 mod byte_str;
 #[cfg(feature = "codec")]
 pub mod codec;
+pub mod connection;
 mod decoder;
 mod error;
 mod frame;
@@ -69,6 +71,7 @@ mod values;
 
 pub use buffer::Buffer;
 pub use byte_str::{ByteStr, Secret};
+pub use connection::Connection;
 pub use decoder::Decoder;
 pub use error::{Fault, Refusal};
 pub use frame::{Frame, Next};

@@ -1,0 +1,421 @@
+//! A connection without a socket: which message may come when, and which request it answers.
+
+use crate::backend::{self, TransactionStatus};
+use crate::buffer::Buffer;
+use crate::decoder::Decoder;
+use crate::error::{Fault, Refusal};
+use crate::frame::{Frame, Next};
+use crate::frontend;
+use core::fmt;
+use core::marker::PhantomData;
+use pgmsg_core::pg_flow::{Flow, TransactionStatus as CoreStatus};
+
+pub use pgmsg_core::pg_flow::{Fault as OrderFault, Heard, Mode};
+
+/// The tag that stands in the flow for a message without one.
+const NO_TAG: u8 = 0;
+
+/// The tag of a DataRow.
+const DATA_ROW: Option<u8> = Some(b'D');
+
+/// A connection as its client or its server holds it, without a socket: it says which message may be sent now, and which
+/// request a message answers that was received.
+///
+/// The requests of a client are numbered from 0 on, in the order in which they are sent: each Query, Parse, Bind,
+/// Describe, Execute, Close, Sync and FunctionCall. A message out of turn is an [`Error::Order`]. One that was to be sent
+/// isn't written then, and changes nothing; after one that was received the connection is to be closed. No message can be
+/// taken for the answer to another request.
+///
+/// A client answers for the password by [`scram`](crate::scram), and tests itself whether the method that the server asks
+/// for is good enough: after an AuthenticationOk it is to ask [`is_finished`](crate::scram::Client::is_finished).
+///
+/// ```
+/// use pgmsg::connection::{Connection, Heard};
+/// use pgmsg::{backend, frontend};
+///
+/// let (mut connection, mut out) = (Connection::client(), Vec::new());
+/// connection.send(&frontend::Message::Startup(frontend::Startup::new(&[("user", "ann")])), &mut out)?;
+/// let mut came = &b"R\0\0\0\x08\0\0\0\0Z\0\0\0\x05I"[..];
+/// while let Some(event) = connection.receive(&mut came)? {
+///     assert_eq!(event.whose, Heard::Login);
+/// }
+///
+/// let number = connection.send(&frontend::Message::Query("TABLE t".into()), &mut out)?;
+/// assert_eq!((number, connection.waits()), (Some(0), 1));
+/// let mut came = &b"C\0\0\0\x0dSELECT 0\0Z\0\0\0\x05IZ\0\0\0\x05I"[..];
+/// let event = connection.receive(&mut came)?.ok_or("a message")?;
+/// assert_eq!(event.message()?, backend::Message::CommandComplete("SELECT 0".into()));
+/// assert_eq!(event.whose, Heard::Answer { request: 0, is_last: false });
+/// let event = connection.receive(&mut came)?.ok_or("a message")?;
+/// assert_eq!(event.whose, Heard::Answer { request: 0, is_last: true });
+///
+/// let fault = connection.receive(&mut came).unwrap_err();
+/// assert_eq!(fault.to_string(), "no request waits for an answer, at a message of the tag 'Z'");
+/// # Ok::<(), Box<dyn std::error::Error>>(())
+/// ```
+pub struct Connection<S> {
+    flow: Flow,
+    decoder: Decoder,
+    /// Whose the last message of the server was, where it was a row: all rows of a run are of one request.
+    row: Option<Heard>,
+    side: PhantomData<S>,
+}
+
+/// The client's side of a [`Connection`].
+#[derive(Clone, Copy, Debug)]
+pub enum ClientSide {}
+
+/// The server's side of a [`Connection`].
+#[derive(Clone, Copy, Debug)]
+pub enum ServerSide {}
+
+/// A message that a client has received.
+#[derive(Clone, Copy, Debug, PartialEq, Eq)]
+#[non_exhaustive]
+pub struct Answer<'a> {
+    /// The message as its bytes, as [`RowIndex`](backend::RowIndex) takes the body of a row.
+    pub frame: Frame<'a>,
+    /// Which request it answers, and whether nothing more comes for that.
+    pub whose: Heard,
+}
+
+impl<'a> Answer<'a> {
+    /// Reads the message.
+    #[inline]
+    pub fn message(&self) -> Result<backend::Message<'a>, Fault> {
+        backend::Message::read(&self.frame)
+    }
+}
+
+/// A message that a server has received.
+#[derive(Clone, Copy, Debug, PartialEq, Eq)]
+#[non_exhaustive]
+pub struct Asked<'a> {
+    /// The message as its bytes.
+    pub frame: Frame<'a>,
+    /// Its number, where it is a request.
+    pub request: Option<u64>,
+}
+
+impl<'a> Asked<'a> {
+    /// Reads the message.
+    #[inline]
+    pub fn message(&self) -> Result<frontend::Message<'a>, Fault> {
+        frontend::Message::read(&self.frame)
+    }
+}
+
+impl Connection<ClientSide> {
+    /// A client's connection, of which nothing was sent yet.
+    pub fn client() -> Connection<ClientSide> {
+        Connection::of(Flow::client(Default::default()), Decoder::of_server())
+    }
+
+    /// A client's connection that was logged in elsewhere, and waits for nothing.
+    pub fn ready() -> Connection<ClientSide> {
+        Connection::of(Flow::ready(Default::default()), Decoder::of_server())
+    }
+
+    /// Appends a message to what is to be sent, and gives its number where it is a request. A message that is refused, or
+    /// out of turn, leaves the buffer and the connection as they were.
+    #[inline]
+    pub fn send<B: Buffer>(
+        &mut self,
+        message: &frontend::Message<'_>,
+        out: &mut B,
+    ) -> Result<Option<u64>, Error> {
+        let start = out.bytes().len();
+        message.write(out)?;
+        let frame = Frame { tag: message.tag(), bytes: &out.bytes()[start..], offset: 0 };
+        let said = self.flow.said(frame.tag.unwrap_or(NO_TAG), frame.body());
+        said.map_err(|fault| {
+            out.truncate(start);
+            Error::of_order(fault, message.tag())
+        })
+    }
+
+    /// Appends messages with tags that were written before, such as what [`scram::Client`](crate::scram::Client) answers.
+    /// Those before one that is out of turn are appended.
+    ///
+    /// ```
+    /// use pgmsg::connection::Connection;
+    /// use pgmsg::frontend::{Message, Startup};
+    ///
+    /// let (mut connection, mut out) = (Connection::client(), Vec::new());
+    /// connection.send(&Message::Startup(Startup::new(&[("user", "ann")])), &mut out)?;
+    /// let mut password = Vec::new();
+    /// Message::Password(pgmsg::frontend::Password(b"secret\0")).write(&mut password)?;
+    /// let before = out.clone();
+    /// assert!(connection.send_frames(&password, &mut out).is_err());
+    /// assert_eq!(out, before);
+    /// # Ok::<(), Box<dyn std::error::Error>>(())
+    /// ```
+    pub fn send_frames<B: Buffer>(&mut self, bytes: &[u8], out: &mut B) -> Result<(), Error> {
+        let (mut decoder, mut rest) = (Decoder::of_open_client(), bytes);
+        while let Next::Frame(frame) = decoder.next(rest)? {
+            out.try_reserve(frame.bytes.len())?;
+            let said = self.flow.said(frame.tag.unwrap_or(NO_TAG), frame.body());
+            said.map_err(|fault| Error::of_order(fault, frame.tag))?;
+            out.extend_from_slice(frame.bytes);
+            rest = &rest[frame.bytes.len()..];
+        }
+        match rest.is_empty() {
+            true => Ok(()),
+            false => Err(Refusal::NotFrames.into()),
+        }
+    }
+
+    /// Takes the message at the front of the bytes that came, which go on behind it; `None` where it isn't whole. A fault
+    /// leaves the bytes where they are.
+    #[inline(always)]
+    pub fn receive<'a>(&mut self, bytes: &mut &'a [u8]) -> Result<Option<Answer<'a>>, Error> {
+        let Next::Frame(frame) = self.decoder.next(bytes)? else {
+            return Ok(None);
+        };
+        let whose = self.server_says(frame.tag, frame.body())?;
+        *bytes = &bytes[frame.bytes.len()..];
+        Ok(Some(Answer { frame, whose }))
+    }
+
+    /// Takes the byte that answers an SSLRequest or a GSSENCRequest, and tells whether the connection is encrypted from
+    /// there on. An error in its place is a fault here too, since nobody has proved to be the server.
+    ///
+    /// ```
+    /// use pgmsg::connection::Connection;
+    /// use pgmsg::frontend::Message;
+    ///
+    /// let (mut connection, mut out) = (Connection::client(), Vec::new());
+    /// connection.send(&Message::SslRequest, &mut out)?;
+    /// assert!(!connection.receive_encryption(b'N')?);
+    /// # Ok::<(), Box<dyn std::error::Error>>(())
+    /// ```
+    pub fn receive_encryption(&mut self, byte: u8) -> Result<bool, Error> {
+        match self.server_says(Some(byte), &[])? {
+            Heard::Login => Ok(byte != b'N'),
+            _ => Err(Error::of_order(OrderFault::NotReady, Some(byte))),
+        }
+    }
+}
+
+impl Connection<ServerSide> {
+    /// A server's connection, of which nothing was received yet.
+    ///
+    /// ```
+    /// use pgmsg::backend::{Authentication, Message};
+    /// use pgmsg::connection::{Connection, Error, OrderFault};
+    ///
+    /// let (mut connection, mut out) = (Connection::server(), Vec::new());
+    /// let mut came = &b"\0\0\0\x12\0\x03\0\0user\0ann\0\0"[..];
+    /// let asked = connection.receive(&mut came)?.ok_or("a message")?;
+    /// assert_eq!((asked.message()?.name(), asked.request), ("Startup", None));
+    ///
+    /// // A row isn't due before the login is over.
+    /// let fault = connection.send(&Message::DataRow([].into()), &mut out).unwrap_err();
+    /// assert!(matches!(fault, Error::Order { fault: OrderFault::NotReady, .. }));
+    /// connection.send(&Message::Authentication(Authentication::Ok), &mut out)?;
+    /// assert_eq!(out, b"R\0\0\0\x08\0\0\0\0");
+    /// # Ok::<(), Box<dyn std::error::Error>>(())
+    /// ```
+    pub fn server() -> Connection<ServerSide> {
+        Connection::of(Flow::server(), Decoder::of_client())
+    }
+
+    /// A server's connection whose client was logged in elsewhere, and that has nothing to answer.
+    pub fn ready_server() -> Connection<ServerSide> {
+        Connection::of(Flow::ready_server(), Decoder::of_open_client())
+    }
+
+    /// Appends a message to what is to be sent, and gives whose it is. A message that is refused, or out of turn, leaves
+    /// the buffer and the connection as they were.
+    #[inline]
+    pub fn send<B: Buffer>(
+        &mut self,
+        message: &backend::Message<'_>,
+        out: &mut B,
+    ) -> Result<Heard, Error> {
+        let start = out.bytes().len();
+        message.write(out)?;
+        let frame = Frame { tag: message.tag(), bytes: &out.bytes()[start..], offset: 0 };
+        let whose = self.server_says(frame.tag, frame.body());
+        whose.inspect_err(|_| out.truncate(start))
+    }
+
+    /// Appends the byte that answers an SSLRequest or a GSSENCRequest: `S`, `G` or `N`.
+    pub fn send_encryption<B: Buffer>(&mut self, byte: u8, out: &mut B) -> Result<(), Error> {
+        out.try_reserve(1)?;
+        match self.server_says(Some(byte), &[])? {
+            Heard::Login => out.extend_from_slice(&[byte]),
+            _ => return Err(Error::of_order(OrderFault::NotReady, Some(byte))),
+        }
+        Ok(())
+    }
+
+    /// Takes the message at the front of the bytes that came, which go on behind it; `None` where it isn't whole, or where
+    /// the request before is to be answered first. A fault leaves the bytes where they are.
+    #[inline]
+    pub fn receive<'a>(&mut self, bytes: &mut &'a [u8]) -> Result<Option<Asked<'a>>, Error> {
+        let mut decoder = self.decoder.clone();
+        let Next::Frame(frame) = decoder.next(bytes)? else {
+            return Ok(None);
+        };
+        let request = match self.flow.said(frame.tag.unwrap_or(NO_TAG), frame.body()) {
+            Ok(request) => request,
+            Err(OrderFault::Busy) => return Ok(None),
+            Err(fault) => return Err(Error::of_order(fault, frame.tag)),
+        };
+        (self.decoder, self.row) = (decoder, None);
+        *bytes = &bytes[frame.bytes.len()..];
+        Ok(Some(Asked { frame, request }))
+    }
+}
+
+impl<S> Connection<S> {
+    fn of(flow: Flow, decoder: Decoder) -> Connection<S> {
+        Connection { flow, decoder, row: None, side: PhantomData }
+    }
+
+    /// Refuses messages to be received of more than so many bytes, as [`Decoder::with_limit`] does.
+    pub fn with_limit(mut self, limit: usize) -> Connection<S> {
+        self.decoder = self.decoder.with_limit(limit);
+        self
+    }
+
+    /// What the connection waits for.
+    pub fn mode(&self) -> Mode {
+        self.flow.mode()
+    }
+
+    /// The status that the last ReadyForQuery reported.
+    pub fn status(&self) -> Option<TransactionStatus> {
+        Some(match self.flow.status()? {
+            CoreStatus::Idle => TransactionStatus::Idle,
+            CoreStatus::Transaction => TransactionStatus::InTransaction,
+            CoreStatus::Error => TransactionStatus::Failed,
+        })
+    }
+
+    /// How many requests were sent from the first that isn't answered on.
+    pub fn waits(&self) -> u64 {
+        self.flow.waits()
+    }
+
+    /// The number of the first request that waits; where none does, of the next one that is sent.
+    pub fn first(&self) -> u64 {
+        self.flow.first()
+    }
+
+    /// A message of the server goes to its client. A row behind a row is of the same request, and leads nowhere.
+    #[inline(always)]
+    fn server_says(&mut self, tag: Option<u8>, body: &[u8]) -> Result<Heard, Error> {
+        match self.row {
+            Some(whose) if tag == DATA_ROW => Ok(whose),
+            _ => self.step(tag, body),
+        }
+    }
+
+    fn step(&mut self, tag: Option<u8>, body: &[u8]) -> Result<Heard, Error> {
+        let heard = self.flow.heard(tag.unwrap_or(NO_TAG), body);
+        let whose = heard.map_err(|fault| Error::of_order(fault, tag))?;
+        self.row = Some(whose).filter(|_| tag == DATA_ROW);
+        Ok(whose)
+    }
+}
+
+/// Shows what it waits for.
+impl<S> fmt::Debug for Connection<S> {
+    fn fmt(&self, f: &mut fmt::Formatter<'_>) -> fmt::Result {
+        f.debug_struct("Connection")
+            .field("mode", &self.mode())
+            .field("status", &self.status())
+            .field("first", &self.first())
+            .field("waits", &self.waits())
+            .finish_non_exhaustive()
+    }
+}
+
+/// Why a message isn't sent, or can't be taken.
+#[derive(Clone, Debug, PartialEq, Eq)]
+#[non_exhaustive]
+pub enum Error {
+    /// It can't be written or read.
+    Message(Fault),
+    /// It is out of turn.
+    Order {
+        /// Why it can't come now.
+        fault: OrderFault,
+        /// Its tag, or the byte that answers a request for encryption.
+        tag: Option<u8>,
+    },
+}
+
+impl Error {
+    #[cold]
+    fn of_order(fault: OrderFault, tag: Option<u8>) -> Error {
+        Error::Order { fault, tag }
+    }
+}
+
+impl From<Fault> for Error {
+    #[cold]
+    fn from(fault: Fault) -> Error {
+        Error::Message(fault)
+    }
+}
+
+impl From<Refusal> for Error {
+    #[cold]
+    fn from(refusal: Refusal) -> Error {
+        Error::Message(refusal.into())
+    }
+}
+
+impl fmt::Display for Error {
+    fn fmt(&self, f: &mut fmt::Formatter<'_>) -> fmt::Result {
+        let (fault, tag) = match self {
+            Error::Message(fault) => return fault.fmt(f),
+            Error::Order { fault, tag } => (*fault, tag),
+        };
+        match tag {
+            Some(tag) => {
+                write!(f, "{}, at a message of the tag {:?}", words_of(fault), *tag as char)
+            }
+            None => write!(f, "{}, at a message without a tag", words_of(fault)),
+        }
+    }
+}
+
+impl core::error::Error for Error {
+    fn source(&self) -> Option<&(dyn core::error::Error + 'static)> {
+        match self {
+            Error::Message(fault) => Some(fault),
+            Error::Order { .. } => None,
+        }
+    }
+}
+
+#[cfg(feature = "std")]
+impl From<Error> for std::io::Error {
+    fn from(error: Error) -> std::io::Error {
+        match error {
+            Error::Message(fault) => fault.into(),
+            error => std::io::Error::new(std::io::ErrorKind::InvalidData, error),
+        }
+    }
+}
+
+/// What a fault of the order says.
+fn words_of(fault: OrderFault) -> &'static str {
+    match fault {
+        OrderFault::Unknown => "no message of that side begins so",
+        OrderFault::NotReady => "the login doesn't wait for it",
+        OrderFault::AfterEnd => "the session has ended",
+        OrderFault::InCopy => "the data of a COPY are to be given or refused first",
+        OrderFault::NotInCopy => "no COPY takes data",
+        OrderFault::Unasked => "no request waits for an answer",
+        OrderFault::Busy => "the request before isn't answered yet",
+        OrderFault::NotAnAnswer => "it doesn't answer the request that waits",
+        OrderFault::BehindCopy => "a COPY asks for data, and other requests were said behind it",
+        OrderFault::SyncFirst => "a Sync is to be said first",
+        OrderFault::Full => "no memory for one more request that waits",
+    }
+}
