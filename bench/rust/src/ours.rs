@@ -2,7 +2,8 @@
 
 use crate::Query;
 use pgmsg::backend::RowIndex;
-use pgmsg::connection::{ClientSide, Connection, Heard};
+use pgmsg::connection::{ClientSide, Connection};
+use pgmsg::flow::Heard;
 use pgmsg::frontend::{Bind, Execute, Message, Parse, Target};
 use pgmsg::replication::logical::{Datum, LogicalMessage};
 use pgmsg::{Decoder, Format, Next, Value};

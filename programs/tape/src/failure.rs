@@ -19,6 +19,8 @@ pub enum TapeStatus {
     Damaged = 10,
     /// A recording from which secrets were taken may have more, where their places can't be told.
     Untold = 13,
+    /// A recorded session breaks the order of the protocol.
+    OutOfOrder = 14,
 }
 
 /// Why the program ends, with its status.

@@ -1,6 +1,7 @@
-//! Exports, imports, edits, compares, redacts and shows recordings.
+//! Exports, imports, edits, compares, checks, redacts and shows recordings.
 #![forbid(unsafe_code)]
 
+mod check;
 mod client;
 mod conversions;
 mod diff;
@@ -66,6 +67,7 @@ fn run(command: &Command) -> Result<TapeStatus> {
         }
         Command::View { tape, output } => view::view(tape, output)?,
         Command::Diff { one, other } => return diff::diff(one, other),
+        Command::Check { tape } => return check::check(tape),
     }
     Ok(TapeStatus::Ok)
 }

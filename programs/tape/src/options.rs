@@ -4,11 +4,11 @@ use crate::selection::ConnectionRange;
 use clap::{Parser, Subcommand};
 use std::path::PathBuf;
 
-/// Exports, imports, edits, compares, redacts and shows recordings of pg_record.
+/// Exports, imports, edits, compares, checks, redacts and shows recordings of pg_record.
 ///
 /// Ends with 0; with 1 where two recordings differ; with 2 for wrong arguments or rules; with 7 where a file can't be read
 /// or written; with 10 where a recording, or an export of one, has a fault; with 13 where a recording from which secrets were
-/// taken may have more. A file that is written has its name only when all of it is there, and takes the place of one of that
+/// taken may have more; with 14 where a session breaks the order of the protocol. A file that is written has its name only when all of it is there, and takes the place of one of that
 /// name, unless another program has changed that one meanwhile.
 #[derive(Parser, Debug)]
 #[command(name = "pg_tape", version, disable_help_subcommand = true)]
@@ -91,6 +91,18 @@ pub enum Command {
         /// Another one
         #[arg(value_name = "OTHER_TAPE")]
         other: PathBuf,
+    },
+    /// Finds where sessions of a recording break the order of the protocol
+    ///
+    /// Each message is to be one that may come where it came, as PostgreSQL's documentation has it in "Message Flow": what a
+    /// client asks for, and what answers that. Prints a line for the first message of a session that can't come there, with
+    /// what could have come in its place; what else the session has isn't looked at. The last line counts the sessions and the
+    /// messages that were followed. A session of replication, one with a message of more than 4 MiB, and one whose client
+    /// ends the data of a COPY before the server asks for them can't be followed to their end. Ends with 14 where a session
+    /// breaks the order.
+    Check {
+        /// The recording
+        tape: PathBuf,
     },
     /// Takes secrets out of a recording
     ///

@@ -1,5 +1,6 @@
 //! Recordings for tests: sessions of messages of all kinds, cut anywhere, with sides that break the protocol.
 
+use crate::event::{EventKind, RawMessage};
 use pgmsg::backend::{
     self, Authentication, Column, CopyResponse, Field, FieldKind, TransactionStatus,
 };
@@ -145,6 +146,36 @@ pub fn stream(side: Side) -> Vec<u8> {
         Side::Server => server_messages().iter().for_each(|it| it.write(&mut out).unwrap()),
     }
     out
+}
+
+/// The events of a session whose messages a text has, a letter each by their tags: `_` is a Startup, `r` one that asks for
+/// replication, `R` an AuthenticationOk, and `>` and `<` change the side, which is the client at first.
+pub fn session_of(text: &str) -> Vec<EventKind<'static>> {
+    let (mut side, mut events) = (Side::Client, vec![EventKind::Opened(b""[..].into())]);
+    for letter in text.bytes() {
+        let mut bytes = Vec::new();
+        let of_client = |tag| client_messages().into_iter().find(|it| it.tag() == tag);
+        match (side, letter) {
+            (_, b'>') => side = Side::Client,
+            (_, b'<') => side = Side::Server,
+            (Side::Client, b'r') => {
+                Startup::new(&[("replication", "true")]).write(&mut bytes).unwrap()
+            }
+            (Side::Client, b'_') => of_client(None).unwrap().write(&mut bytes).unwrap(),
+            (Side::Client, tag) => of_client(Some(tag)).unwrap().write(&mut bytes).unwrap(),
+            (Side::Server, b'R') => Authentication::Ok.write(&mut bytes).unwrap(),
+            (Side::Server, tag) => {
+                let message = server_messages().into_iter().find(|it| it.tag() == Some(tag));
+                message.unwrap().write(&mut bytes).unwrap();
+            }
+        }
+        if !bytes.is_empty() {
+            let tag = bytes.first().copied().filter(|_| !matches!(letter, b'_' | b'r'));
+            let (here, bytes) = (bytes.len(), bytes.into());
+            events.push(EventKind::Message { side, message: RawMessage { tag, bytes }, here });
+        }
+    }
+    events
 }
 
 /// A connection that asks for a query to be cancelled.

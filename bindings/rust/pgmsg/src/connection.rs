@@ -4,16 +4,11 @@ use crate::backend::{self, TransactionStatus};
 use crate::buffer::Buffer;
 use crate::decoder::Decoder;
 use crate::error::{Fault, Refusal};
+use crate::flow::{self, Flow, Heard, Mode};
 use crate::frame::{Frame, Next};
 use crate::frontend;
 use core::fmt;
 use core::marker::PhantomData;
-use pgmsg_core::pg_flow::{Flow, TransactionStatus as CoreStatus};
-
-pub use pgmsg_core::pg_flow::{Fault as OrderFault, Heard, Mode};
-
-/// The tag that stands in the flow for a message without one.
-const NO_TAG: u8 = 0;
 
 /// The tag of a DataRow.
 const DATA_ROW: Option<u8> = Some(b'D');
@@ -30,8 +25,8 @@ const DATA_ROW: Option<u8> = Some(b'D');
 /// for is good enough: after an AuthenticationOk it is to ask [`is_finished`](crate::scram::Client::is_finished).
 ///
 /// ```
-/// use pgmsg::connection::{Connection, Heard};
-/// use pgmsg::{backend, frontend};
+/// use pgmsg::flow::Heard;
+/// use pgmsg::{backend, frontend, Connection};
 ///
 /// let (mut connection, mut out) = (Connection::client(), Vec::new());
 /// connection.send(&frontend::Message::Startup(frontend::Startup::new(&[("user", "ann")])), &mut out)?;
@@ -108,12 +103,12 @@ impl<'a> Asked<'a> {
 impl Connection<ClientSide> {
     /// A client's connection, of which nothing was sent yet.
     pub fn client() -> Connection<ClientSide> {
-        Connection::of(Flow::client(Default::default()), Decoder::of_server())
+        Connection::of(Flow::client(), Decoder::of_server())
     }
 
     /// A client's connection that was logged in elsewhere, and waits for nothing.
     pub fn ready() -> Connection<ClientSide> {
-        Connection::of(Flow::ready(Default::default()), Decoder::of_server())
+        Connection::of(Flow::ready(), Decoder::of_server())
     }
 
     /// Appends a message to what is to be sent, and gives its number where it is a request. A message that is refused, or
@@ -127,7 +122,7 @@ impl Connection<ClientSide> {
         let start = out.bytes().len();
         message.write(out)?;
         let frame = Frame { tag: message.tag(), bytes: &out.bytes()[start..], offset: 0 };
-        let said = self.flow.said(frame.tag.unwrap_or(NO_TAG), frame.body());
+        let said = self.flow.said(frame.tag, frame.body());
         said.map_err(|fault| {
             out.truncate(start);
             Error::of_order(fault, message.tag())
@@ -154,7 +149,7 @@ impl Connection<ClientSide> {
         let (mut decoder, mut rest) = (Decoder::of_open_client(), bytes);
         while let Next::Frame(frame) = decoder.next(rest)? {
             out.try_reserve(frame.bytes.len())?;
-            let said = self.flow.said(frame.tag.unwrap_or(NO_TAG), frame.body());
+            let said = self.flow.said(frame.tag, frame.body());
             said.map_err(|fault| Error::of_order(fault, frame.tag))?;
             out.extend_from_slice(frame.bytes);
             rest = &rest[frame.bytes.len()..];
@@ -192,7 +187,7 @@ impl Connection<ClientSide> {
     pub fn receive_encryption(&mut self, byte: u8) -> Result<bool, Error> {
         match self.server_says(Some(byte), &[])? {
             Heard::Login => Ok(byte != b'N'),
-            _ => Err(Error::of_order(OrderFault::NotReady, Some(byte))),
+            _ => Err(Error::of_order(flow::Fault::NotReady, Some(byte))),
         }
     }
 }
@@ -202,7 +197,8 @@ impl Connection<ServerSide> {
     ///
     /// ```
     /// use pgmsg::backend::{Authentication, Message};
-    /// use pgmsg::connection::{Connection, Error, OrderFault};
+    /// use pgmsg::connection::{Connection, Error};
+    /// use pgmsg::flow;
     ///
     /// let (mut connection, mut out) = (Connection::server(), Vec::new());
     /// let mut came = &b"\0\0\0\x12\0\x03\0\0user\0ann\0\0"[..];
@@ -211,7 +207,7 @@ impl Connection<ServerSide> {
     ///
     /// // A row isn't due before the login is over.
     /// let fault = connection.send(&Message::DataRow([].into()), &mut out).unwrap_err();
-    /// assert!(matches!(fault, Error::Order { fault: OrderFault::NotReady, .. }));
+    /// assert!(matches!(fault, Error::Order { fault: flow::Fault::NotReady, .. }));
     /// connection.send(&Message::Authentication(Authentication::Ok), &mut out)?;
     /// assert_eq!(out, b"R\0\0\0\x08\0\0\0\0");
     /// # Ok::<(), Box<dyn std::error::Error>>(())
@@ -245,7 +241,7 @@ impl Connection<ServerSide> {
         out.try_reserve(1)?;
         match self.server_says(Some(byte), &[])? {
             Heard::Login => out.extend_from_slice(&[byte]),
-            _ => return Err(Error::of_order(OrderFault::NotReady, Some(byte))),
+            _ => return Err(Error::of_order(flow::Fault::NotReady, Some(byte))),
         }
         Ok(())
     }
@@ -258,9 +254,9 @@ impl Connection<ServerSide> {
         let Next::Frame(frame) = decoder.next(bytes)? else {
             return Ok(None);
         };
-        let request = match self.flow.said(frame.tag.unwrap_or(NO_TAG), frame.body()) {
+        let request = match self.flow.said(frame.tag, frame.body()) {
             Ok(request) => request,
-            Err(OrderFault::Busy) => return Ok(None),
+            Err(flow::Fault::Busy) => return Ok(None),
             Err(fault) => return Err(Error::of_order(fault, frame.tag)),
         };
         (self.decoder, self.row) = (decoder, None);
@@ -287,11 +283,7 @@ impl<S> Connection<S> {
 
     /// The status that the last ReadyForQuery reported.
     pub fn status(&self) -> Option<TransactionStatus> {
-        Some(match self.flow.status()? {
-            CoreStatus::Idle => TransactionStatus::Idle,
-            CoreStatus::Transaction => TransactionStatus::InTransaction,
-            CoreStatus::Error => TransactionStatus::Failed,
-        })
+        self.flow.status()
     }
 
     /// How many requests were sent from the first that isn't answered on.
@@ -314,7 +306,7 @@ impl<S> Connection<S> {
     }
 
     fn step(&mut self, tag: Option<u8>, body: &[u8]) -> Result<Heard, Error> {
-        let heard = self.flow.heard(tag.unwrap_or(NO_TAG), body);
+        let heard = self.flow.heard(tag, body);
         let whose = heard.map_err(|fault| Error::of_order(fault, tag))?;
         self.row = Some(whose).filter(|_| tag == DATA_ROW);
         Ok(whose)
@@ -324,12 +316,7 @@ impl<S> Connection<S> {
 /// Shows what it waits for.
 impl<S> fmt::Debug for Connection<S> {
     fn fmt(&self, f: &mut fmt::Formatter<'_>) -> fmt::Result {
-        f.debug_struct("Connection")
-            .field("mode", &self.mode())
-            .field("status", &self.status())
-            .field("first", &self.first())
-            .field("waits", &self.waits())
-            .finish_non_exhaustive()
+        f.debug_tuple("Connection").field(&self.flow).finish()
     }
 }
 
@@ -342,7 +329,7 @@ pub enum Error {
     /// It is out of turn.
     Order {
         /// Why it can't come now.
-        fault: OrderFault,
+        fault: flow::Fault,
         /// Its tag, or the byte that answers a request for encryption.
         tag: Option<u8>,
     },
@@ -350,7 +337,7 @@ pub enum Error {
 
 impl Error {
     #[cold]
-    fn of_order(fault: OrderFault, tag: Option<u8>) -> Error {
+    fn of_order(fault: flow::Fault, tag: Option<u8>) -> Error {
         Error::Order { fault, tag }
     }
 }
@@ -377,9 +364,9 @@ impl fmt::Display for Error {
         };
         match tag {
             Some(tag) => {
-                write!(f, "{}, at a message of the tag {:?}", words_of(fault), *tag as char)
+                write!(f, "{}, at a message of the tag {:?}", flow::words(fault), *tag as char)
             }
-            None => write!(f, "{}, at a message without a tag", words_of(fault)),
+            None => write!(f, "{}, at a message without a tag", flow::words(fault)),
         }
     }
 }
@@ -400,22 +387,5 @@ impl From<Error> for std::io::Error {
             Error::Message(fault) => fault.into(),
             error => std::io::Error::new(std::io::ErrorKind::InvalidData, error),
         }
-    }
-}
-
-/// What a fault of the order says.
-fn words_of(fault: OrderFault) -> &'static str {
-    match fault {
-        OrderFault::Unknown => "no message of that side begins so",
-        OrderFault::NotReady => "the login doesn't wait for it",
-        OrderFault::AfterEnd => "the session has ended",
-        OrderFault::InCopy => "the data of a COPY are to be given or refused first",
-        OrderFault::NotInCopy => "no COPY takes data",
-        OrderFault::Unasked => "no request waits for an answer",
-        OrderFault::Busy => "the request before isn't answered yet",
-        OrderFault::NotAnAnswer => "it doesn't answer the request that waits",
-        OrderFault::BehindCopy => "a COPY asks for data, and other requests were said behind it",
-        OrderFault::SyncFirst => "a Sync is to be said first",
-        OrderFault::Full => "no memory for one more request that waits",
     }
 }

@@ -57,6 +57,7 @@ pub mod codec;
 pub mod connection;
 mod decoder;
 mod error;
+pub mod flow;
 mod frame;
 pub mod frontend;
 mod list;

@@ -4,7 +4,8 @@ use pgmsg::backend::{
     self, Authentication, BackendKeyData, Column, CopyResponse, Field, FieldKind, ParameterStatus,
     TransactionStatus,
 };
-use pgmsg::connection::{ClientSide, Connection, Error, Heard, Mode, OrderFault, ServerSide};
+use pgmsg::connection::{ClientSide, Connection, Error, ServerSide};
+use pgmsg::flow::{Fault as OrderFault, Heard, Mode};
 use pgmsg::frontend::{self, Bind, Execute, Parse, Password, SaslInitialResponse, Startup, Target};
 use pgmsg::{Format, Refusal};
 
