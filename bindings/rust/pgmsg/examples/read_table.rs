@@ -1,9 +1,10 @@
 //! Logs in by SCRAM-SHA-256, and prints a table: `read_table ADDRESS USER PASSWORD DATABASE TABLE`.
 
 use pgmsg::backend::{Authentication, FieldKind, Message};
+use pgmsg::flow::Heard;
 use pgmsg::frontend::{self, Startup};
 use pgmsg::scram::{Client, Sha256};
-use pgmsg::{ByteStr, Decoder, Next};
+use pgmsg::{ByteStr, Connection};
 use std::io::{Read, Write};
 use std::net::TcpStream;
 
@@ -19,9 +20,8 @@ fn main() -> Result<(), Box<dyn std::error::Error>> {
 
     let (mut socket, mut out) = (TcpStream::connect(address)?, Vec::new());
     let settings = [("user", &user[..]), ("database", &database), ("client_encoding", "UTF8")];
-    Startup::new(&settings).write(&mut out)?;
-    let (mut decoder, mut stream) = (Decoder::of_server(), Vec::new());
-    let (mut is_accepted, mut is_open) = (false, false);
+    let (mut connection, mut stream) = (Connection::client(), Vec::new());
+    connection.send(&frontend::Message::Startup(Startup::new(&settings)), &mut out)?;
     loop {
         socket.write_all(&out)?;
         out.clear();
@@ -30,28 +30,24 @@ fn main() -> Result<(), Box<dyn std::error::Error>> {
             0 => return Err("the server closed the connection".into()),
             count => stream.extend_from_slice(&block[..count]),
         }
-        let mut done = 0;
-        while let Next::Frame(frame) = decoder.next(&stream[done..])? {
-            done += frame.bytes.len();
-            match Message::read(&frame)? {
-                Message::Authentication(Authentication::Ok)
-                    if scram.is_finished() && !is_accepted =>
-                {
-                    is_accepted = true
+        let mut rest = &stream[..];
+        while let Some(answer) = connection.receive(&mut rest)? {
+            match answer.message()? {
+                Message::Authentication(Authentication::Ok) if scram.is_finished() => {}
+                Message::Authentication(request) => {
+                    let mut proof = Vec::new();
+                    scram.respond(&request, &mut proof)?;
+                    connection.send_frames(&proof, &mut out)?;
                 }
-                Message::Authentication(request) => scram.respond(&request, &mut out)?,
                 Message::ErrorResponse(fields) => {
                     let message = fields.value(FieldKind::Message).unwrap_or_default();
                     return Err(message.to_str_lossy().into());
                 }
-                Message::NoticeResponse(_) | Message::NegotiateProtocolVersion(_) => {}
-                _ if !is_accepted => return Err("a message before the login is accepted".into()),
-                Message::ReadyForQuery(_) if is_open => return Ok(()),
-                Message::ReadyForQuery(_) => {
+                Message::ReadyForQuery(_) if answer.whose == Heard::Login => {
                     let query = format!("TABLE {table}");
-                    frontend::Message::Query((&query).into()).write(&mut out)?;
-                    is_open = true;
+                    connection.send(&frontend::Message::Query((&query).into()), &mut out)?;
                 }
+                Message::ReadyForQuery(_) => return Ok(()),
                 Message::DataRow(values) => {
                     let texts = values.iter().map(|value| value.bytes().unwrap_or(b"NULL"));
                     let texts: Vec<_> = texts.map(|text| ByteStr(text).to_printable()).collect();
@@ -60,6 +56,7 @@ fn main() -> Result<(), Box<dyn std::error::Error>> {
                 _ => {}
             }
         }
-        stream.drain(..done);
+        let left = rest.len();
+        stream.drain(..stream.len() - left);
     }
 }

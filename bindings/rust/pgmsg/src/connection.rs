@@ -51,8 +51,8 @@ const DATA_ROW: Option<u8> = Some(b'D');
 pub struct Connection<S> {
     flow: Flow,
     decoder: Decoder,
-    /// Whose the last message of the server was, where it was a row: all rows of a run are of one request.
-    row: Option<Heard>,
+    /// The request that the last message of the server answers, where that was a row: all rows of a run are of one.
+    rows_of: Option<u64>,
     side: PhantomData<S>,
 }
 
@@ -259,7 +259,7 @@ impl Connection<ServerSide> {
             Err(flow::Fault::Busy) => return Ok(None),
             Err(fault) => return Err(Error::of_order(fault, frame.tag)),
         };
-        (self.decoder, self.row) = (decoder, None);
+        (self.decoder, self.rows_of) = (decoder, None);
         *bytes = &bytes[frame.bytes.len()..];
         Ok(Some(Asked { frame, request }))
     }
@@ -267,7 +267,7 @@ impl Connection<ServerSide> {
 
 impl<S> Connection<S> {
     fn of(flow: Flow, decoder: Decoder) -> Connection<S> {
-        Connection { flow, decoder, row: None, side: PhantomData }
+        Connection { flow, decoder, rows_of: None, side: PhantomData }
     }
 
     /// Refuses messages to be received of more than so many bytes, as [`Decoder::with_limit`] does.
@@ -299,16 +299,19 @@ impl<S> Connection<S> {
     /// A message of the server goes to its client. A row behind a row is of the same request, and leads nowhere.
     #[inline(always)]
     fn server_says(&mut self, tag: Option<u8>, body: &[u8]) -> Result<Heard, Error> {
-        match self.row {
-            Some(whose) if tag == DATA_ROW => Ok(whose),
-            _ => self.step(tag, body),
+        match self.rows_of {
+            Some(request) if tag == DATA_ROW => Ok(Heard::Answer { request, is_last: false }),
+            _ => self.step(tag, body).map_err(|fault| Error::of_order(fault, tag)),
         }
     }
 
-    fn step(&mut self, tag: Option<u8>, body: &[u8]) -> Result<Heard, Error> {
-        let heard = self.flow.heard(tag, body);
-        let whose = heard.map_err(|fault| Error::of_order(fault, tag))?;
-        self.row = Some(whose).filter(|_| tag == DATA_ROW);
+    #[inline(never)]
+    fn step(&mut self, tag: Option<u8>, body: &[u8]) -> Result<Heard, flow::Fault> {
+        let whose = self.flow.heard(tag, body)?;
+        self.rows_of = match whose {
+            Heard::Answer { request, .. } if tag == DATA_ROW => Some(request),
+            _ => None,
+        };
         Ok(whose)
     }
 }

@@ -1,7 +1,9 @@
 //! The answers: a table.
 
+use crate::session::Session;
+use crate::Result;
 use pgmsg::backend::{Column, CopyResponse, Field, FieldKind, Message};
-use pgmsg::{Format, Refusal};
+use pgmsg::Format;
 
 /// The two columns of a COPY, as text.
 pub fn texts() -> CopyResponse<'static> {
@@ -54,40 +56,40 @@ impl Canned {
         known.unwrap_or(&OTHER)
     }
 
-    /// Writes the columns, or that there are none.
-    pub fn describe(&self, out: &mut Vec<u8>) -> Result<(), Refusal> {
+    /// Sends the columns, or that there are none.
+    pub fn describe(&self, to: &mut Session) -> Result<()> {
         match self.answer {
             Answer::Rows(columns, _) => {
                 let columns = columns.iter().map(|(name, id)| Column::new(*name, *id));
-                Message::RowDescription(columns.collect()).write(out)
+                to.say(Message::RowDescription(columns.collect()))
             }
-            _ => Message::NoData.write(out),
+            _ => to.say(Message::NoData),
         }
     }
 
-    /// Writes what follows the columns up to the end of the command, or an error at the words in the query.
-    pub fn finish(&self, query: &str, out: &mut Vec<u8>) -> Result<(), Refusal> {
+    /// Sends what follows the columns up to the end of the command, or an error at the words in the query.
+    pub fn finish(&self, query: &str, to: &mut Session) -> Result<()> {
         match self.answer {
-            Answer::Failure(message) => return self.fail(query, message, out),
+            Answer::Failure(message) => return self.fail(query, message, to),
             Answer::Rows(_, rows) => {
                 for row in rows {
                     let values = row.iter().map(|text| (*text).into());
-                    Message::DataRow(values.collect()).write(out)?;
+                    to.say(Message::DataRow(values.collect()))?;
                 }
             }
             Answer::CopyOut(lines) => {
-                Message::CopyOutResponse(texts()).write(out)?;
+                to.say(Message::CopyOutResponse(texts()))?;
                 for line in lines {
-                    Message::CopyData((*line).into()).write(out)?;
+                    to.say(Message::CopyData((*line).into()))?;
                 }
-                Message::CopyDone.write(out)?;
+                to.say(Message::CopyDone)?;
             }
             _ => {}
         }
-        Message::CommandComplete(self.tag.into()).write(out)
+        to.say(Message::CommandComplete(self.tag.into()))
     }
 
-    fn fail(&self, query: &str, message: &str, out: &mut Vec<u8>) -> Result<(), Refusal> {
+    fn fail(&self, query: &str, message: &str, to: &mut Session) -> Result<()> {
         let position = (query.find(self.words).unwrap_or(0) + 1).to_string();
         let fields = [
             Field::new(FieldKind::LocalizedSeverity, "ERROR"),
@@ -96,6 +98,6 @@ impl Canned {
             Field::new(FieldKind::Message, message),
             Field::new(FieldKind::Position, &position),
         ];
-        Message::ErrorResponse((&fields).into()).write(out)
+        to.say(Message::ErrorResponse((&fields).into()))
     }
 }

@@ -10,7 +10,6 @@ mod answers;
 mod session;
 
 use pgmsg::frontend::Message;
-use pgmsg::{Decoder, Next};
 use session::Session;
 use std::error::Error;
 use std::io::{Read, Write};
@@ -20,13 +19,12 @@ use std::{env, thread};
 type Result<T> = std::result::Result<T, Box<dyn Error>>;
 
 fn serve(mut client: TcpStream) -> Result<()> {
-    let (mut decoder, mut stream, mut session) = (Decoder::of_client(), vec![], Session::default());
+    let (mut stream, mut session) = (vec![], Session::default());
     let mut block = [0; 1 << 16];
     loop {
-        let mut done = 0;
-        while let Next::Frame(frame) = decoder.next(&stream[done..])? {
-            done += frame.bytes.len();
-            match Message::read(&frame)? {
+        let mut rest = &stream[..];
+        while let Some(asked) = session.connection.receive(&mut rest)? {
+            match asked.message()? {
                 Message::Terminate => return Ok(()),
                 Message::CancelRequest(request) => {
                     let words = if session::is_known(&request) { "names" } else { "doesn't name" };
@@ -36,7 +34,8 @@ fn serve(mut client: TcpStream) -> Result<()> {
                 message => session.take(message)?,
             }
         }
-        stream.drain(..done);
+        let left = rest.len();
+        stream.drain(..stream.len() - left);
         client.write_all(&session.out)?;
         session.out.clear();
         match client.read(&mut block)? {

@@ -5,7 +5,9 @@ use crate::Result;
 use pgmsg::backend::Message as Reply;
 use pgmsg::backend::{Authentication, BackendKeyData, NegotiateProtocolVersion};
 use pgmsg::backend::{NotificationResponse, ParameterStatus, TransactionStatus};
+use pgmsg::connection::ServerSide;
 use pgmsg::frontend::{CancelRequest, Message, Startup, Target};
+use pgmsg::Connection;
 use std::collections::HashMap;
 
 /// The settings that the session says to have.
@@ -37,16 +39,26 @@ pub fn is_known(request: &CancelRequest<'_>) -> bool {
     keys.contains(&BackendKeyData { process_id, secret_key })
 }
 
-#[derive(Default)]
 pub struct Session {
+    pub connection: Connection<ServerSide>,
     /// What is to be sent.
     pub out: Vec<u8>,
     statements: HashMap<Vec<u8>, &'static Canned>,
     portals: HashMap<Vec<u8>, &'static Canned>,
     /// How many lines of a COPY came.
     lines: usize,
-    /// Whether all is passed over up to a Sync, after an error.
-    is_failed: bool,
+}
+
+impl Default for Session {
+    fn default() -> Session {
+        Session {
+            connection: Connection::server(),
+            out: Vec::new(),
+            statements: HashMap::new(),
+            portals: HashMap::new(),
+            lines: 0,
+        }
+    }
 }
 
 impl Session {
@@ -56,19 +68,21 @@ impl Session {
         let options = names.filter(|name| name.starts_with(b"_pq_.")).collect();
         let spoken = NegotiateProtocolVersion { major: 3, minor, options };
         if minor < startup.minor || !spoken.options.is_empty() {
-            spoken.write(&mut self.out)?;
+            self.say(Reply::NegotiateProtocolVersion(spoken))?;
         }
-        Authentication::Ok.write(&mut self.out)?;
+        self.say(Reply::Authentication(Authentication::Ok))?;
         for (name, value) in SETTINGS {
             let (name, value) = (name.into(), value.into());
-            ParameterStatus { name, value }.write(&mut self.out)?;
+            self.say(Reply::ParameterStatus(ParameterStatus { name, value }))?;
         }
-        key_of(minor).write(&mut self.out)?;
+        self.say(Reply::BackendKeyData(key_of(minor)))?;
         self.ready()
     }
 
-    fn say(&mut self, message: Reply<'_>) -> Result<()> {
-        Ok(message.write(&mut self.out)?)
+    /// Sends a message that is due.
+    pub fn say(&mut self, message: Reply<'_>) -> Result<()> {
+        self.connection.send(&message, &mut self.out)?;
+        Ok(())
     }
 
     fn ready(&mut self) -> Result<()> {
@@ -80,9 +94,10 @@ impl Session {
             Message::Startup(startup) => self.greet(&startup),
             // No encryption; this byte is no message.
             Message::SslRequest | Message::GssEncRequest => {
-                self.out.push(b'N');
-                Ok(())
+                Ok(self.connection.send_encryption(b'N', &mut self.out)?)
             }
+            // A Flush, or what is passed over up to a Sync after an error.
+            _ if self.connection.waits() == 0 => Ok(()),
             Message::Query(query) => self.answer(query.as_str()?),
             Message::CopyData(data) => {
                 self.lines += data.iter().filter(|&&byte| byte == b'\n').count();
@@ -94,14 +109,10 @@ impl Session {
                 self.ready()
             }
             Message::CopyFail(_) => {
-                OTHER.finish("", &mut self.out)?;
+                OTHER.finish("", self)?;
                 self.ready()
             }
-            Message::Sync => {
-                self.is_failed = false;
-                self.ready()
-            }
-            _ if self.is_failed => Ok(()),
+            Message::Sync => self.ready(),
             message => self.take_extended(message),
         }
     }
@@ -116,14 +127,14 @@ impl Session {
                 return self.say(Reply::CopyInResponse(texts()));
             }
             Answer::Rows(..) => {
-                canned.describe(&mut self.out)?;
-                canned.finish(query, &mut self.out)?;
+                canned.describe(self)?;
+                canned.finish(query, self)?;
             }
             Answer::Notify => {
-                canned.finish(query, &mut self.out)?;
+                canned.finish(query, self)?;
                 self.notify(query.trim_start_matches("NOTIFY "))?;
             }
-            _ => canned.finish(query, &mut self.out)?,
+            _ => canned.finish(query, self)?,
         }
         self.ready()
     }
@@ -155,12 +166,10 @@ impl Session {
                 if let Target::Statement(_) = target {
                     self.say(Reply::ParameterDescription([].into()))?;
                 }
-                Ok(self.known(target).describe(&mut self.out)?)
+                self.known(target).describe(self)
             }
             Message::Execute(execute) => {
-                let canned = self.known(Target::Portal(execute.portal));
-                self.is_failed = matches!(canned.answer, Answer::Failure(_));
-                Ok(canned.finish("", &mut self.out)?)
+                self.known(Target::Portal(execute.portal)).finish("", self)
             }
             Message::Close(target) => {
                 match target {
@@ -169,7 +178,6 @@ impl Session {
                 };
                 self.say(Reply::CloseComplete)
             }
-            // A Flush: all is sent at once.
             _ => Ok(()),
         }
     }
