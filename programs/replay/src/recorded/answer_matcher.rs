@@ -1,6 +1,7 @@
 //! Which message of a client each message of the server answers. What a client said is cut by what it says, and never by
 //! the time at which it was answered.
 
+use pgmsg::flow::{Flow, Heard};
 use std::collections::VecDeque;
 
 /// How many messages that wait for an answer are looked through for the one that an answer is of.
@@ -102,6 +103,53 @@ pub struct AnswerMatcher {
     is_skipping: bool,
     copy: Option<CopyIn>,
     last: usize,
+    followed: FollowedSession,
+}
+
+/// A session after its login, which says how many ReadyForQuery may answer the Syncs of a COPY that fails.
+#[derive(Debug, Default)]
+struct FollowedSession {
+    /// Nothing before the login is over, and where the session breaks the order, or is one of replication.
+    flow: Option<Flow>,
+    is_open: bool,
+    /// The client's messages that are requests, from the number of the first on.
+    requests: VecDeque<usize>,
+    first: u64,
+}
+
+impl FollowedSession {
+    /// Takes a message of the client.
+    fn said(&mut self, number: usize, tag: u8, body: &[u8]) {
+        match self.flow.as_mut().map(|flow| flow.said(Some(tag), body)) {
+            Some(Ok(Some(_))) => self.requests.push_back(number),
+            Some(Err(_)) => self.flow = None,
+            _ => {}
+        }
+    }
+
+    /// Takes a message of the server. Answers the last Sync where it may answer several.
+    fn heard(&mut self, tag: u8, body: &[u8]) -> Option<usize> {
+        if !self.is_open {
+            self.is_open = tag == b'Z';
+            self.flow = Some(Flow::ready()).filter(|_| self.is_open);
+            return None;
+        }
+        let flow = self.flow.as_mut()?;
+        let last = match flow.heard(Some(tag), body) {
+            Ok(Heard::Group { last, .. }) => {
+                self.requests.get(last.saturating_sub(self.first) as usize).copied()
+            }
+            Ok(_) => None,
+            Err(_) => {
+                self.flow = None;
+                return None;
+            }
+        };
+        while self.first < flow.first() && self.requests.pop_front().is_some() {
+            self.first += 1;
+        }
+        last
+    }
 }
 
 impl AnswerMatcher {
@@ -111,7 +159,17 @@ impl AnswerMatcher {
     }
 
     /// Takes a message of the client, by its number. Answers to which message those belong that were held.
-    pub fn request(&mut self, number: usize, kind: RequestKind) -> Option<usize> {
+    pub fn request(
+        &mut self,
+        number: usize,
+        kind: RequestKind,
+        (tag, body): (u8, &[u8]),
+    ) -> Option<usize> {
+        self.followed.said(number, tag, body);
+        self.take_request(number, kind)
+    }
+
+    fn take_request(&mut self, number: usize, kind: RequestKind) -> Option<usize> {
         let mut freed = None;
         if let Some(copy) = self.copy.as_mut() {
             match kind {
@@ -149,12 +207,16 @@ impl AnswerMatcher {
         }
     }
 
-    /// Where a server's message belongs, by its tag.
-    pub fn answer(&mut self, tag: u8) -> AnswerTarget {
+    /// Where a server's message belongs.
+    pub fn answer(&mut self, tag: u8, body: &[u8]) -> AnswerTarget {
+        let group = self.followed.heard(tag, body);
         let target = match tag {
             b'N' | b'S' | b'A' => self.front(),
             b'E' => self.on_error(),
-            b'Z' => self.on_ready(),
+            b'Z' => match group {
+                Some(last) => self.on_ready_of_group(last),
+                None => self.on_ready(),
+            },
             _ => self.on_answer(tag),
         };
         if let AnswerTarget::Request(number) = target {
@@ -211,6 +273,17 @@ impl AnswerMatcher {
         AnswerTarget::After(self.last)
     }
 
+    /// A ReadyForQuery answers one of the Syncs of a COPY that failed, of which this is the last: no other request is done by it.
+    fn on_ready_of_group(&mut self, last: usize) -> AnswerTarget {
+        if self.copy.is_some_and(|it| it.has_failed) {
+            return AnswerTarget::Held;
+        }
+        while self.queue.front().is_some_and(|(number, _)| *number <= last) {
+            self.queue.pop_front();
+        }
+        AnswerTarget::Request(last)
+    }
+
     fn on_answer(&mut self, tag: u8) -> AnswerTarget {
         let mut asked = self.queue.iter().take(LOOKED_AT);
         let Some(place) = asked.position(|(_, kind)| kind.is_answered_by(tag)) else {
@@ -237,10 +310,69 @@ impl AnswerMatcher {
                 _ => return,
             }
             self.queue.remove(1);
-            self.request(number, kind);
+            self.take_request(number, kind);
             if kind == RequestKind::DataEnd {
                 return;
             }
         }
+    }
+}
+
+#[cfg(test)]
+mod tests {
+    use super::*;
+    use AnswerTarget::{Held, Request};
+
+    /// Where the messages of a server belong, of a session whose messages a text has, a letter each by their tags: `_` is a
+    /// Startup, and `>` and `<` change the side.
+    fn answered(text: &str) -> Vec<AnswerTarget> {
+        let (mut matcher, mut targets, mut is_client) =
+            (AnswerMatcher::default(), Vec::new(), true);
+        let mut number = 0;
+        for letter in text.bytes() {
+            let kind = match letter {
+                b'>' | b'<' => {
+                    is_client = letter == b'>';
+                    continue;
+                }
+                b'_' => RequestKind::Startup,
+                b'Q' => RequestKind::Query,
+                b'P' => RequestKind::Parse,
+                b'B' => RequestKind::Bind,
+                b'E' => RequestKind::Execute,
+                b'S' => RequestKind::Sync,
+                b'd' => RequestKind::Data,
+                _ => RequestKind::DataEnd,
+            };
+            if is_client {
+                matcher.request(number, kind, (letter, b""));
+                number += 1;
+            } else {
+                targets.push(matcher.answer(letter, b"I"));
+            }
+        }
+        targets
+    }
+
+    #[test]
+    fn a_second_ready_behind_a_copy_that_failed_answers_nothing_that_was_said_next() {
+        // The messages: Startup, Parse, Bind, Execute, Sync, data, CopyDone, Sync, and a Query.
+        let begun = [0, 0, 1, 2, 3].map(Request);
+        let query = [8, 8, 8].map(Request);
+        let table: [(&str, &[AnswerTarget]); 4] = [
+            ("_<RZ>PBES<12G>dcS<EZ>Q<TCZ", &[Request(6), Request(7)]),
+            ("_<RZ>PBES<12G>dcS<EZZ>Q<TCZ", &[Request(6), Request(7), Request(7)]),
+            ("_<RZ>PBES<12G>dcS<EZ>Q<ZTCZ", &[Request(6), Request(7), Request(7)]),
+            ("_<RZ>PBES<12G>d<EZ>cS<Z>Q<TCZ", &[Held, Held, Request(7)]),
+        ];
+        for (text, wanted) in table {
+            assert_eq!(answered(text), [&begun[..], wanted, &query].concat(), "{text}");
+        }
+    }
+
+    #[test]
+    fn a_sync_before_the_data_of_a_copy_that_succeeds_is_answered_by_the_one_after_them() {
+        let wanted = [0, 0, 1, 2, 3, 6, 7, 8, 8].map(Request);
+        assert_eq!(answered("_<RZ>PBES<12G>dcS<CZ>Q<CZ"), wanted);
     }
 }

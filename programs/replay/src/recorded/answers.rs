@@ -140,7 +140,7 @@ impl ConnectionBuilder {
             self.asks_for_password = true;
             return None;
         }
-        let target = self.matcher.answer(tag);
+        let target = self.matcher.answer(tag, body);
         match tag {
             b'K' => self.process = BackendKeyData::read(body).ok().map(|it| it.process_id),
             b'W' => self.open_both(target),

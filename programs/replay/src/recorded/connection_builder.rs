@@ -159,9 +159,7 @@ impl ConnectionBuilder {
                 Ok(None) => break,
                 Err(_) => self.is_broken = true,
                 Ok(Some(MessageSlice::Whole(message))) => self.say(message),
-                Ok(Some(MessageSlice::Part(part, left))) => {
-                    self.say_long(part[0], part.len(), left)
-                }
+                Ok(Some(MessageSlice::Part(part, left))) => self.say_long(part, left),
             }
         }
         self.client = client;
@@ -183,7 +181,7 @@ impl ConnectionBuilder {
         if kind == RequestKind::Data {
             // The state of a standby comes when its clock says so.
             if !(self.matcher.is_both() && is_state_of_standby(body)) {
-                self.say_bytes(message.len(), true);
+                self.say_bytes(message.len(), (tag, body));
             }
             return;
         }
@@ -209,27 +207,31 @@ impl ConnectionBuilder {
     }
 
     /// Adds a part of a long message.
-    fn say_long(&mut self, tag: u8, len: usize, left: usize) {
+    fn say_long(&mut self, part: &[u8], left: usize) {
         let is_first = !std::mem::replace(&mut self.is_long, left > 0);
         if !is_first {
-            return self.requests.extend_last(len as u64);
+            return self.requests.extend_last(part.len() as u64);
         }
         self.count += 1;
-        let is_data = tag == b'd';
-        self.say_bytes(len, is_data);
-        if let (false, Some(kind)) = (is_data, kind_of(tag)) {
-            self.follow(kind);
+        let (tag, body) = (part[0], part.get(HEAD..).unwrap_or_default());
+        self.say_bytes(part.len(), (tag, body));
+        if let (false, Some(kind)) = (tag == b'd', kind_of(tag)) {
+            self.follow(kind, (tag, body));
         }
     }
 
     /// Adds bytes that are compared as they are: data to those before, any other message as one of its own.
-    fn say_bytes(&mut self, len: usize, is_data: bool) {
+    fn say_bytes(&mut self, len: usize, message: (u8, &[u8])) {
+        let is_data = message.0 == b'd';
         let compare_by = CompareBy::Bytes(len as u64);
         match self.requests.len().checked_sub(1).map(|last| self.requests.compare_by(last)) {
             Some(CompareBy::Bytes(_)) if is_data && !self.is_last_heard => {
                 self.requests.extend_last(len as u64)
             }
-            _ if is_data => self.add(compare_by, RequestKind::Data),
+            _ if is_data => {
+                self.push(compare_by);
+                self.follow(RequestKind::Data, message)
+            }
             _ => self.push(compare_by),
         }
     }
@@ -241,12 +243,8 @@ impl ConnectionBuilder {
             tag,
             body: body.to_vec(),
         });
-        self.add(CompareBy::Fingerprint(UNRECORDED), kind);
-    }
-
-    fn add(&mut self, compare_by: CompareBy, kind: RequestKind) {
-        self.push(compare_by);
-        self.follow(kind);
+        self.push(CompareBy::Fingerprint(UNRECORDED));
+        self.follow(kind, (tag.unwrap_or_default(), body));
     }
 
     fn push(&mut self, compare_by: CompareBy) {
@@ -257,8 +255,8 @@ impl ConnectionBuilder {
         self.requests.push(compare_by, self.begins, self.count);
     }
 
-    fn follow(&mut self, kind: RequestKind) {
-        if let Some(request) = self.matcher.request(self.requests.len() - 1, kind) {
+    fn follow(&mut self, kind: RequestKind, message: (u8, &[u8])) {
+        if let Some(request) = self.matcher.request(self.requests.len() - 1, kind, message) {
             self.free(request);
         }
     }
