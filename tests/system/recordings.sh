@@ -232,6 +232,21 @@ CASES
     same 'drop: nothing is written then' "$(ls "$work/none.tape"* 2> /dev/null)" ''
 }
 
+# The order of the messages of a recording, and of one in which the second session lacks a message.
+test_tape_check() {
+    local tape=$work/edits.tape
+    try "$programs/pg_tape" check "$tape"
+    same 'check: a recording in order' "$status $(sed 's/, [0-9]* messages/, messages/' <<< "$output")" \
+        "0 3 sessions, messages followed; 0 sessions break the order, 0 can't be followed to their end"
+    "$programs/pg_tape" export "$tape" | grep -v '^{"connection":2,.*"kind":"RowDescription"' > "$work/broken.jsonl"
+    "$programs/pg_tape" import "$work/broken.jsonl" -o "$work/broken.tape"
+    try "$programs/pg_tape" check "$work/broken.tape"
+    same 'check: a session without the columns of its rows' "$status $(wc -l < "$work/output") $(grep -oE \
+        '^connection 2, .* DataRow of the server|; what could have come: RowDescription,|1 sessions break' "$work/output" \
+        | sed 's/message [0-9]*/message/' | tr '\n' ' ')" \
+        '14 2 connection 2, message, DataRow of the server ; what could have come: RowDescription, 1 sessions break '
+}
+
 # Exports of recordings, their schema, and lines that were changed.
 test_tape_exports() {
     record_command "$work/script.tape" "$bin/psql" -X -f "$work/secret.sql"
@@ -390,6 +405,7 @@ test_recordings() {
     test_tape_redact_followed
     test_tape_redact_logins
     test_tape_edits
+    test_tape_check
     test_tape_exports
     test_tape_long
     test_tape_outputs
