@@ -163,7 +163,7 @@ mod tests {
     /// A server answers the Sync before the data too, where the COPY fails before it takes them, and drops it otherwise.
     #[test]
     fn a_sync_before_the_data_of_a_copy_that_fails_does_not_shift_what_follows() {
-        let begun = [0, 0, 1, 1, 1, 1, 1, 1, 1, 1, 1, 1, 1];
+        let begun = [0, 0, 1, 1, 1, 1, 1, 1, 1, 1, 1, 1];
         let table: [(&str, &[u32]); 4] = [
             ("_<Z>PBES<12G>dcS<EZ>QQ<TCZCZ", &[1, 1, 2, 3, 2, 2, 2, 3, 3]),
             ("_<Z>PBES<12G>dcS<EZZ>QQ<TCZCZ", &[1, 1, 1, 2, 3, 2, 2, 2, 3, 3]),
