@@ -1,6 +1,6 @@
 //! What messages are appended to, and values that are spelled into a buffer.
 
-use pgmsg::frontend::{copy_head, Message};
+use pgmsg::frontend::Message;
 use pgmsg::{Refusal, Values};
 use std::panic::{self, AssertUnwindSafe};
 
