@@ -1,35 +1,81 @@
-# The packages of packaging/package, installed and used by the commands of README.md: in a new Debian where one can be
-# made, else unpacked. Sourced by `run`.
+# The packages of packaging/package, made and used by the commands of README.md, as a user would who has no rt: where one can be
+# made, in a new Debian 12, else here, where they are unpacked. Sourced by `run`.
 
 # The commands below a heading of that page.
 commands_of() {
-    sed -n "/^## $1\$/,/^## /s/^    //p" README.md
+    sed -n "/^## $1\$/,/^## /s/^    //p" README.md | sed 's/ *#.*//'
 }
 
-# Makes a new Debian in a folder. What it installs comes from the mirror.
+# Makes a new Debian 12 in a folder, with a C compiler. Its packages come from the mirror, or from where apt keeps those that
+# it has fetched here.
 make_debian() {
+    local fetched=/var/cache/apt/archives
     [ "$(id -u)" = 0 ] && command -v debootstrap > /dev/null || return
-    timeout 600 debootstrap --variant=minbase --include=gcc,libc6-dev,pkg-config bookworm "$1" > "$work/debootstrap" 2>&1
+    timeout 1800 debootstrap --variant=minbase --include=gcc,libc6-dev,pkg-config --cache-dir=$fetched bookworm "$1" \
+        > "$work/debootstrap" 2>&1 || return
+    printf 'deb http://deb.debian.org/debian%s main\n' ' bookworm' '-security bookworm-security' > "$1/etc/apt/sources.list"
+    mkdir "$1/root/tarnwhisk"
+    in_debian "$1" 'apt-get -q update' > "$work/debootstrap" 2>&1
 }
 
-# Runs those commands in a new Debian.
+# Runs a command in that Debian, with nothing of this machine's environment.
+in_debian() {
+    # shellcheck disable=SC2016
+    unshare --mount sh -c 'mount -t proc proc "$0/proc" && exec chroot "$0" env -i -C /root/tarnwhisk HOME=/root LANG=C.UTF-8 \
+        PATH=/usr/sbin:/usr/bin:/sbin:/bin DEBIAN_FRONTEND=noninteractive nice -n 10 bash -e -c "$1"' \
+        "$1" "${2/#apt-get install/apt-get install --yes --quiet}"
+}
+
+# Runs a command where packages are unpacked in a folder.
+in_unpacked() {
+    PKG_CONFIG_PATH=$1/usr/lib/pkgconfig LD_LIBRARY_PATH=$1/usr/lib PATH=$1/usr/bin:$(dirname "$(command -v "$builder")"):$PATH \
+        PYTHONPATH=$1/usr/lib/python3/dist-packages env -C "$1" bash -e -c "$2"
+}
+
+# Runs commands of README.md by a function in a folder, to the first that fails. What each wrote is in $written.
+follow() {
+    local command begun
+    for command in "${@:3}"; do
+        begun=$SECONDS
+        try "$1" "$2" "$command"
+        expect "package: $1, in $((SECONDS - begun)) seconds: $command" 0
+        [ "$status" = 0 ] || return
+        written+=("$output")
+    done
+}
+
+# Follows README.md in a new Debian: builds and tests in one copy of it, of a clone of this commit, and uses the packages in
+# another, which has nothing that they were built with.
 use_in_debian() {
-    cp -r "$work/packages" "$1/root/packages"
-    cp "$work/hello.c" "$work/commands" "$1/root"
-    DEBIAN_FRONTEND=noninteractive try chroot "$1" env -C /root bash -e commands
+    cp -a "$1" "$work/building"
+    # Links to what was fetched here already, where they can be made.
+    cp -l /var/cache/apt/archives/*.deb "$work/building/var/cache/apt/archives" 2> /dev/null
+    git clone --quiet . "$work/building/root/tarnwhisk"
+    follow in_debian "$work/building" 'if command -v rt; then exit 1; fi' "${building[@]}"
+    [ "$status" = 0 ] || return
+    cp -r "$work/building/root/tarnwhisk/packages" "$work/hello.c" "$1/root/tarnwhisk"
+    follow in_debian "$1" "${using[@]}"
+    try in_debian "$1" "dpkg-query -W -f '\${Description}' libpgmsg0 libpgmsg-dev pg-record python3-pgmsg"
+    same 'package: each that has code for messages says that it is a plain build' \
+        "$(grep -c 'plain build' <<< "$output") $(grep -c 'proved build' <<< "$output")" '4 0'
 }
 
-# Runs those that install nothing on the files of the packages.
+# Makes the packages here, and runs the commands that install nothing on their files.
 use_unpacked() {
     local package
-    mkdir "$1"
+    if [ -n "$(packaging/package --missing)" ]; then
+        echo "left out: packages (apt-get install --no-install-recommends $(packaging/package --missing))"
+        return
+    fi
+    PROGRAMS=$built try packaging/package "$work/packages"
+    expect 'package: they are made' 0
+    [ "$status" = 0 ] || return
     for package in "$work"/packages/*.deb; do
         dpkg -x "$package" "$1"
     done
     cp "$work/hello.c" "$1"
-    sed '/^apt-get/d' "$work/commands" > "$1/commands"
-    PKG_CONFIG_PATH=$1/usr/lib/pkgconfig LD_LIBRARY_PATH=$1/usr/lib PATH=$1/usr/bin:$(dirname "$(command -v "$builder")"):$PATH \
-        PYTHONPATH=$1/usr/lib/python3/dist-packages try env -C "$1" bash -e commands
+    find_builder
+    follow in_unpacked "$1" "${using[@]:1}"
 }
 
 # The user of the image serves a recording that its owner alone can read, as pg_record makes it. Root is that owner with
@@ -53,16 +99,10 @@ test_image_user() {
 }
 
 test_package() {
+    local building using written=()
     test_image_user
-    if ! find_builder || ! dpkg-checkbuilddeps packaging/debian/control > /dev/null 2>&1; then
-        echo 'left out: packages, which need what the Python package needs, dpkg-dev, debhelper, dh-python and help2man'
-        return
-    fi
-    PROGRAMS=$built try packaging/package "$work/packages"
-    grep '^left out: ' <<< "$errors"
-    expect 'package: they are made' 0
-    [ "$status" = 0 ] || return
-    commands_of Install | tail -n +2 | sed 's/ *#.*//; 1s/install/install --yes/' > "$work/commands"
+    mapfile -t building < <(commands_of Install | sed '/^apt-get install \.\//,$d')
+    mapfile -t using < <(commands_of Install | sed -n '/^apt-get install \.\//,$p')
     awk '/^```c$/ { shown = 1; next } /^```$/ { if (shown) exit } shown' bindings/c/README.md > "$work/hello.c"
     if make_debian "$work/debian"; then
         use_in_debian "$work/debian"
@@ -70,5 +110,7 @@ test_package() {
         echo 'left out: packages in a new Debian, for which debootstrap, root and a mirror are needed; they are unpacked'
         use_unpacked "$work/unpacked"
     fi
-    same 'package: what a program in C and one in Python write' "$status ${output##*$'\n'}" "0 Q"$'\r'"SELECT 1b'S\\x00\\x00\\x00\\x04'"
+    # The compiler writes nothing.
+    same 'package: what a program in Rust, one in C and one in Python write' "${written[*]: -4}" \
+        "pg_record $released plain build  Q"$'\r'"SELECT 1 b'S\\x00\\x00\\x00\\x04'"
 }
