@@ -30,7 +30,8 @@ passes. Requests to cancel are passed on, and counted at the end.";
 
 /// What the arguments ask for.
 #[derive(Parser, Debug)]
-#[command(name = "pg_record", version, about = ABOUT, after_help = AFTER, override_usage = USAGE)]
+#[command(name = "pg_record", version = concat!(env!("CARGO_PKG_VERSION"), " plain build"))]
+#[command(about = ABOUT, after_help = AFTER, override_usage = USAGE)]
 #[command(disable_help_flag = true)]
 pub struct RecordOptions {
     #[arg(value_name = "LISTEN_PORT", required_unless_present_any = ["print", "listen", "command"])]

@@ -33,7 +33,8 @@ pub const USAGE: &str = "usage: pg_replay [OPTION..] FILE [LISTEN_PORT] -- COMMA
 ///
 /// Messages up to a mebibyte are compared so; longer ones have to be as recorded.
 #[derive(Parser, Debug)]
-#[command(name = "pg_replay", version, override_usage = FORM, disable_help_flag = true)]
+#[command(name = "pg_replay", version = concat!(env!("CARGO_PKG_VERSION"), " plain build"))]
+#[command(override_usage = FORM, disable_help_flag = true)]
 pub struct ReplayOptions {
     /// The recording
     pub file: PathBuf,

@@ -11,7 +11,8 @@ use std::path::PathBuf;
 /// taken may have more; with 14 where a session breaks the order of the protocol. A file that is written has its name only when all of it is there, and takes the place of one of that
 /// name, unless another program has changed that one meanwhile.
 #[derive(Parser, Debug)]
-#[command(name = "pg_tape", version, disable_help_subcommand = true)]
+#[command(name = "pg_tape", version = concat!(env!("CARGO_PKG_VERSION"), " plain build"))]
+#[command(disable_help_subcommand = true)]
 pub struct TapeOptions {
     #[command(subcommand)]
     pub command: Command,
