@@ -32,12 +32,13 @@ in_unpacked() {
         PYTHONPATH=$1/usr/lib/python3/dist-packages env -C "$1" bash -e -c "$2"
 }
 
-# Runs commands of README.md by a function in a folder, to the first that fails. What each wrote is in $written.
+# Runs commands of README.md where some words say, by a function in a folder, to the first that fails. What each wrote is in
+# $written.
 follow() {
     local command begun
-    for command in "${@:3}"; do
+    for command in "${@:4}"; do
         begun=$SECONDS
-        try "$1" "$2" "$command"
+        try "$2" "$3" "$command"
         expect "package: $1, in $((SECONDS - begun)) seconds: $command" 0
         [ "$status" = 0 ] || return
         written+=("$output")
@@ -51,10 +52,10 @@ use_in_debian() {
     # Links to what was fetched here already, where they can be made.
     cp -l /var/cache/apt/archives/*.deb "$work/building/var/cache/apt/archives" 2> /dev/null
     git clone --quiet . "$work/building/root/tarnwhisk"
-    follow in_debian "$work/building" 'if command -v rt; then exit 1; fi' "${building[@]}"
+    follow 'a new Debian 12' in_debian "$work/building" '! command -v rt' "${building[@]}"
     [ "$status" = 0 ] || return
     cp -r "$work/building/root/tarnwhisk/packages" "$work/hello.c" "$1/root/tarnwhisk"
-    follow in_debian "$1" "${using[@]}"
+    follow 'another new Debian 12' in_debian "$1" "${using[@]}"
     try in_debian "$1" "dpkg-query -W -f '\${Description}' libpgmsg0 libpgmsg-dev pg-record python3-pgmsg"
     same 'package: each that has code for messages says that it is a plain build' \
         "$(grep -c 'plain build' <<< "$output") $(grep -c 'proved build' <<< "$output")" '4 0'
@@ -75,7 +76,7 @@ use_unpacked() {
     done
     cp "$work/hello.c" "$1"
     find_builder
-    follow in_unpacked "$1" "${using[@]:1}"
+    follow 'unpacked' in_unpacked "$1" "${using[@]:1}"
 }
 
 # The user of the image serves a recording that its owner alone can read, as pg_record makes it. Root is that owner with
