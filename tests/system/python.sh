@@ -7,7 +7,7 @@ has_python() {
 }
 
 # What a Python that can build the package ends with 0 for.
-builds='import os, sys, sysconfig, cffi, pip, setuptools, wheel
+builds='import os, sys, sysconfig, cffi, setuptools, wheel, pip
 sys.exit(sys.version_info < (3, 11) or not os.path.exists(sysconfig.get_path("include") + "/pyconfig.h"))'
 
 # Sets $builder to a Python that can build the package without a network and run it, or answers false.
