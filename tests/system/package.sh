@@ -18,12 +18,17 @@ make_debian() {
     in_debian "$1" 'apt-get -q update' > "$work/debootstrap" 2>&1
 }
 
-# Runs a command in that Debian, with nothing of this machine's environment.
+# Runs a command in that Debian, with nothing of this machine's environment. Its mount is seen by nobody else, and taken away
+# again where this machine is such a Debian itself, whose mounts can't be hidden.
 in_debian() {
     # shellcheck disable=SC2016
-    unshare --mount sh -c 'mount -t proc proc "$0/proc" && exec chroot "$0" env -i -C /root/tarnwhisk HOME=/root LANG=C.UTF-8 \
-        PATH=/usr/sbin:/usr/bin:/sbin:/bin DEBIAN_FRONTEND=noninteractive nice -n 10 bash -e -c "$1"' \
-        "$1" "${2/#apt-get install/apt-get install --yes --quiet}"
+    unshare --mount --propagation unchanged sh -c 'mount --make-rprivate / 2> /dev/null
+        mount -t proc proc "$0/proc" || exit
+        chroot "$0" env -i -C /root/tarnwhisk HOME=/root LANG=C.UTF-8 PATH=/usr/sbin:/usr/bin:/sbin:/bin \
+            DEBIAN_FRONTEND=noninteractive nice -n 10 bash -e -c "$1"
+        status=$?
+        umount "$0/proc"
+        exit $status' "$1" "${2/#apt-get install/apt-get install --yes --quiet}"
 }
 
 # Runs a command where packages are unpacked in a folder.
