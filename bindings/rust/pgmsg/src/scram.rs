@@ -134,5 +134,5 @@ fn covered(first: &[u8], challenge: &[u8], without_proof: &[u8]) -> Vec<u8> {
 
 /// The message of the client's proof but for that.
 fn without_proof(header: &str, binding: &[u8], nonce: &str) -> alloc::string::String {
-    format!("c={},r={nonce}", base64::encode(&[header.as_bytes(), binding].concat()))
+    format!("c={},r={nonce}", base64::encode([header.as_bytes(), binding].concat()))
 }

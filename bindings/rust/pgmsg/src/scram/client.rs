@@ -188,7 +188,7 @@ impl<'a, D: Digest> Client<'a, D> {
         let key = D::hmac(&salted, b"Client Key");
         let proof = xor(key, &D::hmac(&D::hash(&key), &messages));
         self.state = State::Signature(D::hmac(&D::hmac(&salted, b"Server Key"), &messages));
-        Ok(format!("{answer},p={}", base64::encode(&proof)).into())
+        Ok(format!("{answer},p={}", base64::encode(proof)).into())
     }
 
     /// Takes the server's signature.

@@ -112,7 +112,7 @@ impl<'a, D: Digest> Server<'a, D> {
         }
         let signature = D::hmac(&self.kept.server_key, messages);
         self.state = State::Finished;
-        Ok(format!("v={}", base64::encode(&signature)).into())
+        Ok(format!("v={}", base64::encode(signature)).into())
     }
 }
 
