@@ -2,8 +2,9 @@
 use Rattle.std.proofs.Common.{◌≡◌, ℕ, List, [], ◌∷◌, ◌++◌, ◌⊎◌, inl, inr, refl, sym, ap, ◌∙◌, subst, Bool, true, false}
 use Rattle.std.specs.Prelude.{if◌then◌else◌, nat_eq}
 use Rattle.pg_flow.specs.declared.answer.Answer.{Answer}
-use Rattle.pg_flow.specs.declared.answer.Answer.TheVariants.{BindComplete, CloseComplete, CommandComplete, CopyData, CopyDone, CopyIn, CopyOut, DataRow, EmptyQuery, Failure, FunctionResult, NoData, ParameterDescription, ParseComplete, PortalSuspended, Ready, RowDescription}
+use Rattle.pg_flow.specs.declared.answer.Answer.TheVariants.{BindComplete, CloseComplete, CommandComplete, CopyBoth, CopyData, CopyDone, CopyIn, CopyOut, DataRow, EmptyQuery, Failure, FunctionResult, NoData, ParameterDescription, ParseComplete, PortalSuspended, Ready, RowDescription}
 use Rattle.pg_flow.specs.Pattern.{Either, Is, Many, Matches, Never, Nothing, Pattern, Repeats, Then, more, none}
+use Rattle.pg_flow.proofs.PatternLemmas.{Leads, both, in_first, in_many}
 
 abbrev code : Answer → ℕ
 code ParseComplete = 0
@@ -23,6 +24,7 @@ code CopyDone = 13
 code FunctionResult = 14
 code Failure = 15
 code Ready = 16
+code CopyBoth = 17
 
 abbrev pub same : Answer → Answer → Bool
 same m x = nat_eq (code m) (code x)
@@ -45,6 +47,7 @@ itself CopyDone = refl
 itself FunctionResult = refl
 itself Failure = refl
 itself Ready = refl
+itself CopyBoth = refl
 
 abbrev pub nullable : Pattern → Bool
 nullable Never = false
@@ -145,3 +148,76 @@ derive m (Then p q) w (a, b, e, h, k) = derive_then m p q (derive m p) (derive m
 derive m (Either p q) w (inl h) = to_either (derived m p) (derived m q) w (inl (derive m p w h))
 derive m (Either p q) w (inr h) = to_either (derived m p) (derived m q) w (inr (derive m q w h))
 derive m (Many p) w h = derive_many m p (derive m p) h w refl
+
+-- and the converse: what is computed loses nothing and adds nothing
+
+impossible : {A : Type 0} → false ≡ true → A
+impossible e = cc
+
+is_same : (m x : Answer) → same m x ≡ true → m ≡ x
+is_same ParseComplete ParseComplete e = refl
+is_same BindComplete BindComplete e = refl
+is_same CloseComplete CloseComplete e = refl
+is_same ParameterDescription ParameterDescription e = refl
+is_same RowDescription RowDescription e = refl
+is_same NoData NoData e = refl
+is_same DataRow DataRow e = refl
+is_same CommandComplete CommandComplete e = refl
+is_same EmptyQuery EmptyQuery e = refl
+is_same PortalSuspended PortalSuspended e = refl
+is_same CopyIn CopyIn e = refl
+is_same CopyOut CopyOut e = refl
+is_same CopyData CopyData e = refl
+is_same CopyDone CopyDone e = refl
+is_same FunctionResult FunctionResult e = refl
+is_same Failure Failure e = refl
+is_same Ready Ready e = refl
+is_same CopyBoth CopyBoth e = refl
+is_same _ _ e = impossible e
+
+from_then : (p q : Pattern) (w : List Answer) → Matches (then_simply p q) w → Matches (Then p q) w
+from_then Never q w h = absurd h
+from_then Nothing q w h = ([], w, refl, refl, h)
+from_then _ q w h = h
+
+from_either : (p q : Pattern) (w : List Answer) → Matches (either_simply p q) w → Matches p w ⊎ Matches q w
+from_either Never q w h = inr h
+from_either p Never w h = inl h
+from_either _ _ w h = h
+
+and_true : (b c : Bool) → (if b then c else false) ≡ true → (b ≡ true) × (c ≡ true)
+and_true true c e = (refl, e)
+and_true false c e = impossible e
+
+or_cases : (b c : Bool) → (if b then true else c) ≡ true → (b ≡ true) ⊎ (c ≡ true)
+or_cases true c e = inl refl
+or_cases false c e = inr e
+
+empty_when : (p : Pattern) → nullable p ≡ true → Matches p []
+empty_when Never e = impossible e
+empty_when Nothing e = refl
+empty_when (Is m) e = impossible e
+empty_when (Then p q) e =
+    let f : (nullable p ≡ true) × (nullable q ≡ true) = and_true (nullable p) (nullable q) e in
+    ([], [], refl, empty_when p f.0, empty_when q f.1)
+empty_when (Either p q) e = both (empty_when p) (empty_when q) (or_cases (nullable p) (nullable q) e)
+empty_when (Many p) e = none
+
+under_is : (b : Bool) (m x : Answer) (w : List Answer) → same m x ≡ b → Matches (if b then Nothing else Never) w → Matches (Is x) (m ∷ w)
+under_is true m x w e h = ap (λ (v : List Answer). m ∷ v) h ∙ ap (λ (y : Answer). y ∷ []) (is_same m x e)
+under_is false m x w e h = absurd h
+
+under_then : (b : Bool) (m : Answer) (p q : Pattern) → Leads m (derived m p) p → Leads m (derived m q) q → (w : List Answer) → nullable p ≡ b →
+    Matches (then_simply (derived m p) q) w ⊎ Matches (if b then derived m q else Never) w → Matches (Then p q) (m ∷ w)
+under_then b m p q f g w e (inl h) = in_first m (derived m p) p q f w (from_then (derived m p) q w h)
+under_then true m p q f g w e (inr h) = ([], m ∷ w, refl, empty_when p e, g w h)
+under_then false m p q f g w e (inr h) = absurd h
+
+pub underive : (m : Answer) (p : Pattern) (w : List Answer) → Matches (derived m p) w → Matches p (m ∷ w)
+underive m Never w h = absurd h
+underive m Nothing w h = absurd h
+underive m (Is x) w h = under_is (same m x) m x w refl h
+underive m (Then p q) w h =
+    under_then (nullable p) m p q (underive m p) (underive m q) w refl (from_either (then_simply (derived m p) q) (if nullable p then derived m q else Never) w h)
+underive m (Either p q) w h = both (underive m p w) (underive m q w) (from_either (derived m p) (derived m q) w h)
+underive m (Many p) w h = in_many m (derived m p) p (underive m p) w (from_then (derived m p) (Many p) w h)

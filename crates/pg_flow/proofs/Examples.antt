@@ -1,7 +1,7 @@
 -- Sessions that are taken, so that the theorems speak of some.
 use Rattle.std.proofs.Common.{◌≡◌, [], ◌∷◌, refl, true, false}
-use Rattle.pg_flow.specs.declared.answer.Answer.TheVariants.{BindComplete, CommandComplete, CopyIn, DataRow, Failure, ParseComplete, Ready, RowDescription}
-use Rattle.pg_flow.specs.declared.place.Place.TheVariants.{Start}
+use Rattle.pg_flow.specs.declared.answer.Answer.TheVariants.{BindComplete, CommandComplete, CopyBoth, CopyData, CopyDone, CopyIn, DataRow, Failure, ParseComplete, Ready, RowDescription}
+use Rattle.pg_flow.specs.declared.place.Place.TheVariants.{Over, Start}
 use Rattle.pg_flow.specs.declared.request.Request.TheVariants.{Bind, Execute, Parse, Query, Sync}
 use Rattle.pg_flow.specs.ClientFlow.{Group, Plain}
 use Rattle.pg_flow.specs.Plain.{state}
@@ -16,6 +16,16 @@ failing_pipeline = refl
 -- a Query whose second statement is a COPY
 copying : IsTaken (Sent Query ∷ Got RowDescription ∷ Got DataRow ∷ Got CommandComplete ∷ Got CopyIn ∷ Ended true ∷ Got CommandComplete ∷ Got Ready ∷ [])
 copying = refl
+
+-- a replication that the client ends, and one that fails
+replicating : IsTaken (Sent Query ∷ Got CopyBoth ∷ Got CopyData ∷ Ended true ∷ Got CopyData ∷ Got CopyDone ∷ Got CommandComplete ∷ Got CommandComplete ∷ Got Ready
+    ∷ Sent Query ∷ Got CopyBoth ∷ Got Failure ∷ Got Ready ∷ [])
+replicating = refl
+
+-- the server ends its data while the end of the client's is on its way
+both_end : (schedule (Says Query ∷ Takes ∷ Answers CopyBoth ∷ Hears ∷ Ends_data true ∷ Answers CopyDone ∷ Hears ∷ Says Query ∷ Takes ∷ Answers CommandComplete ∷ Hears ∷ Answers Ready ∷ Hears ∷ Takes
+    ∷ Answers CommandComplete ∷ Hears ∷ []) at_first).client ≡ Plain (state (Query ∷ []) Over)
+both_end = refl
 
 -- an answer that is heard after more was said, and taken as the first one's
 in_flight : (schedule (Says Query ∷ Takes ∷ Says Query ∷ Answers RowDescription ∷ Says Sync ∷ Answers Failure ∷ Hears ∷ Answers Ready ∷ Takes ∷ Hears ∷ Hears

@@ -4,16 +4,16 @@ use Rattle.std.specs.Prelude.{IfSome, if◌then◌else◌}
 use Rattle.pg_flow.specs.declared.answer.Answer.{Answer}
 use Rattle.pg_flow.specs.declared.answer.Answer.TheVariants.{CommandComplete, CopyIn, Failure, Ready}
 use Rattle.pg_flow.specs.declared.place.Place.{Place}
-use Rattle.pg_flow.specs.declared.place.Place.TheVariants.{Asked, Failed, Given, Start, Withheld}
+use Rattle.pg_flow.specs.declared.place.Place.TheVariants.{Asked, Both, BothIn, Failed, Given, Start, Withheld}
 use Rattle.pg_flow.specs.declared.request.Request.{Request}
 use Rattle.pg_flow.specs.declared.request.Request.TheVariants.{Call, Execute, Query, Sync}
 use Rattle.pg_flow.specs.declared.table.Next.{Next}
 use Rattle.pg_flow.specs.declared.table.Next.TheVariants.{At, Done, Wrong}
 use Rattle.pg_flow.specs.ClientFlow.{Client, Copying, Group, Plain, all_syncs, behind, hear, hear_copying, hear_first, highest, is_none, is_start, lead, lowest, number, or_copying, ready_group}
-use Rattle.pg_flow.specs.Plain.{State, answers, at_asked, at_place, failed_at, failed_ready, is_copy_in, is_sync, state, went}
+use Rattle.pg_flow.specs.Plain.{State, answers, at_open, at_place, failed_at, failed_ready, opens_data, is_sync, state, went}
 use Rattle.pg_flow.specs.ServerFlow.{Asks, Busy, Ends, Idle, Server, Skips, Up, after, is_failure, number_of, tell, tell_as, told}
 use Rattle.pg_flow.specs.Table.{next_of}
-use Rattle.pg_flow.proofs.PlainLemmas.{Takes_it, Tidy, answer_taken, asks, has_end, impossible, placed, placed_not, pushes_up, tidy_clean, tidy_then, up_behind, up_idle}
+use Rattle.pg_flow.proofs.PlainLemmas.{Alone, Takes_it, Tidy, answer_taken, asks, has_end, impossible, never_asked, placed, placed_not, pushes_up, tidy_clean, tidy_then, up_behind, up_idle, up_still}
 use Rattle.pg_flow.proofs.RestLemmas.{rest}
 use Rattle.pg_flow.proofs.CoversLemmas.{Awaits, Copy_as, Copy_at, Copy_covers, Covers, Group_busy, Group_covers, Neat, Numbered, Plain_covers, Reads, Rest_is, Sync_first, behind_up, lead_up, plain_of}
 use Rattle.pg_flow.proofs.TakesLemmas.{neat_clean}
@@ -21,7 +21,7 @@ use Rattle.pg_flow.proofs.TakesLemmas.{neat_clean}
 -- the server answers, and the client hears it
 
 abbrev pub Heard_ok : ℕ → Answer → ℕ → Option Client → ℕ → ℕ → List Up → Server → ℕ → Type 0
-Heard_ok n m j None low high p s count = is_copy_in m ≡ true
+Heard_ok n m j None low high p s count = opens_data m ≡ true
 Heard_ok n m j (Some c) low high p s count = (low ≤ j) × (j ≤ high) × Covers c p s n count
 
 abbrev pub Hears_from : ℕ → Answer → Client → List Up → ℕ → Server → Type 0
@@ -43,6 +43,8 @@ Goes r quiet i u = (plain_of (after u r quiet i) ≡ u) × ((count : ℕ) → i 
 
 goes_at : (q : Place) (r : Request) (quiet : Bool) (i : ℕ) → IfSome (at_place q r []) (Goes r quiet i)
 goes_at Asked r quiet i = (refl, (λ count e. e))
+goes_at Both r quiet i = (refl, (λ count e. e))
+goes_at BothIn r quiet i = (refl, (λ count e. e))
 goes_at q r quiet i = (refl, (λ count e. e))
 
 goes_next : (n : Next) (r : Request) (quiet : Bool) (i : ℕ) → IfSome (went n r []) (Goes r quiet i)
@@ -96,14 +98,14 @@ numbered_high n i count p r e f = omega arith
 abbrev Plain_hears : ℕ → Answer → Request → Place → Bool → ℕ → List Up → ℕ → Type 0
 Plain_hears n m r place quiet i p count = IfSome (tell_as m r place quiet i) (λ t. Heard_ok n m i (hear_first m r (placed p place) (asks p)) (number n (r ∷ asks p)) (number n (r ∷ asks p)) p t count)
 
-plain_rest : (n : ℕ) (m : Answer) (r : Request) (place : Place) (quiet : Bool) (i : ℕ) (p : List Up) (count : ℕ) → Tidy (state (r ∷ []) place) p → n ≡ count + length (asks p) →
+plain_rest : (n : ℕ) (m : Answer) (r : Request) (place : Place) (quiet : Bool) (i : ℕ) (p : List Up) (count : ℕ) → Tidy (state (r ∷ []) place) p → Alone (pushes_up p (state (r ∷ []) place)) p → n ≡ count + length (asks p) →
     i + 1 ≡ count → or_copying m r (placed p place) (asks p) None ≡ None → Plain_hears n m r place quiet i p count
-plain_rest n m r place quiet i p count t e f c =
+plain_rest n m r place quiet i p count t a e f c =
     let low : ℕ = number n (r ∷ asks p) in
     tell_if m r place quiet i (λ s. Heard_ok n m i (hear_first m r (placed p place) (asks p)) low low p s count)
     (plain_one (answers m r place []) n i count m r (placed p place) p (answers m r (placed p place) (asks p)) quiet low low
     (numbered_low n i count (asks p) r e f) (numbered_high n i count (asks p) r e f)
-    (answer_taken m r place p (tidy_clean r place m p t)) (goes m r place quiet i) (tidy_some m r place p t) f c)
+    (answer_taken m r place p (tidy_clean r place m p t) a) (goes m r place quiet i) (tidy_some m r place p t) f c)
 
 no_asks : (p : List Up) → has_end p ≡ false → asks p ≡ [] → p ≡ []
 no_asks [] e f = refl
@@ -125,7 +127,7 @@ copy_in_if true n i count xs p quiet low high a b e g f num c =
 copy_in_if false n i count xs p quiet low high a b e g f num c = refl
 
 copy_in : (qs : List Request) (n i count : ℕ) (p : List Up) (quiet : Bool) (low high : ℕ) → low ≤ i → i ≤ high → has_end p ≡ false → asks p ≡ qs → n ≡ count + length (asks p) → i + 1 ≡ count →
-    Heard_ok n CopyIn i (or_copying CopyIn Execute Start qs (at_asked Execute qs)) low high p (Busy Execute Asked quiet i) count
+    Heard_ok n CopyIn i (or_copying CopyIn Execute Start qs (at_open Asked Execute qs)) low high p (Busy Execute Asked quiet i) count
 copy_in [] n i count p quiet low high a b e f g num =
     let none : p ≡ [] = no_asks p e f in
     (a, b, record { like = ap (λ (l : List Up). pushes_up l (state (Execute ∷ []) Asked)) (sym none); tidy = inl e; alone = (λ h. none); numbered = num })
@@ -138,27 +140,27 @@ copy_begins n quiet i p count t e f =
     tell_if CopyIn Execute Start quiet i (λ s. Heard_ok n CopyIn i (hear_first CopyIn Execute (placed p Start) (asks p)) low low p s count)
     (subst (λ (q : Place). Heard_ok n CopyIn i (hear_first CopyIn Execute q (asks p)) low low p (Busy Execute Asked quiet i) count) (sym (placed_not p Start refl))
     (copy_in (asks p) n i count p quiet low low (numbered_low n i count (asks p) Execute e f) (numbered_high n i count (asks p) Execute e f)
-    (tidy_clean Execute Start CopyIn p t) refl e f))
+    (tidy_clean Execute Start CopyIn p t refl) refl e f))
 
 no_copy : (place : Place) (quiet : Bool) (i : ℕ) (P : Server → Type 0) → is_start place ≡ false → IfSome (tell_as CopyIn Execute place quiet i) P
 no_copy Start quiet i P e = impossible (sym e)
 no_copy _ true i P e = tt
 no_copy _ false i P e = tt
 
-plain_hears : (n : ℕ) (m : Answer) (r : Request) (place : Place) (quiet : Bool) (i : ℕ) (p : List Up) (count : ℕ) → Tidy (state (r ∷ []) place) p → n ≡ count + length (asks p) →
+plain_hears : (n : ℕ) (m : Answer) (r : Request) (place : Place) (quiet : Bool) (i : ℕ) (p : List Up) (count : ℕ) → Tidy (state (r ∷ []) place) p → Alone (pushes_up p (state (r ∷ []) place)) p → n ≡ count + length (asks p) →
     i + 1 ≡ count → Plain_hears n m r place quiet i p count
-plain_hears n CopyIn Execute Start quiet i p count t e f = copy_begins n quiet i p count t e f
-plain_hears n CopyIn Execute place quiet i p count t e f =
+plain_hears n CopyIn Execute Start quiet i p count t a e f = copy_begins n quiet i p count t e f
+plain_hears n CopyIn Execute place quiet i p count t a e f =
     no_copy place quiet i (λ s. Heard_ok n CopyIn i (hear_first CopyIn Execute (placed p place) (asks p)) (number n (Execute ∷ asks p)) (number n (Execute ∷ asks p)) p s count) refl
-plain_hears n CopyIn r place quiet i p count t e f = plain_rest n CopyIn r place quiet i p count t e f refl
-plain_hears n m r place quiet i p count t e f = plain_rest n m r place quiet i p count t e f refl
+plain_hears n CopyIn r place quiet i p count t a e f = plain_rest n CopyIn r place quiet i p count t a e f refl
+plain_hears n m r place quiet i p count t a e f = plain_rest n m r place quiet i p count t a e f refl
 
 hears_plain : (n : ℕ) (m : Answer) (c : State) (p : List Up) (s : Server) (count : ℕ) → Plain_covers c p s count → n ≡ count + length (asks p) → Hears_from n m (Plain c) p count s
 hears_plain n m c p (Idle quiet) count h e = tt
 hears_plain n m c p Skips count h e = tt
 hears_plain n m c p (Busy r place quiet i) count h e =
     subst (λ (d : State). Hears_from n m (Plain d) p count (Busy r place quiet i)) (sym (h.like ∙ up_behind p r [] place))
-    (plain_hears n m r place quiet i p count h.tidy e h.numbered)
+    (plain_hears n m r place quiet i p count h.tidy (subst (λ (d : State). Alone d p) h.like h.alone) e h.numbered)
 
 -- the COPY fails, or is complete
 
@@ -310,7 +312,7 @@ rest_alone : (n : ℕ) (m : Answer) (r : Request) (quiet : Bool) (i : ℕ) (p : 
     IfSome (tell_as m r Start quiet i) (λ t. Heard_ok n m i (hear_first m r Start (asks p)) (number n (r ∷ asks p)) (number n (r ∷ asks p)) p t count)
 rest_alone n m r quiet i p count h e f =
     subst (λ (q : Place). IfSome (tell_as m r Start quiet i) (λ t. Heard_ok n m i (hear_first m r q (asks p)) (number n (r ∷ asks p)) (number n (r ∷ asks p)) p t count))
-    (placed_not p Start refl) (plain_hears n m r Start quiet i p count (inl h) e f)
+    (placed_not p Start refl) (plain_hears n m r Start quiet i p count (inl h) (never_asked (pushes_up p (state (r ∷ []) Start)) (state (r ∷ asks p) Start) p (up_still p r Start refl) refl) e f)
 
 abbrev Rest_hears : ℕ → Answer → ℕ → ℕ → ℕ → List Request → Bool → List Up → ℕ → Request → Bool → ℕ → Type 0
 Rest_hears n m first l k rest skips p count r quiet i = Hears_from n m (Group first l k rest skips) p count (Busy r Start quiet i)

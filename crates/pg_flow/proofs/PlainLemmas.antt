@@ -2,25 +2,31 @@
 use Rattle.std.proofs.Common.{◌≡◌, List, [], ◌∷◌, ◌++◌, ◌⊎◌, inl, inr, refl, sym, ap, ◌∙◌, subst, append_assoc, append-nil, Bool, true, false, Option, Some, None}
 use Rattle.std.specs.Prelude.{IfSome, if◌then◌else◌}
 use Rattle.pg_flow.specs.declared.answer.Answer.{Answer}
-use Rattle.pg_flow.specs.declared.answer.Answer.TheVariants.{BindComplete, CloseComplete, CommandComplete, CopyData, CopyDone, CopyIn, CopyOut, DataRow, EmptyQuery, Failure, FunctionResult, NoData, ParameterDescription, ParseComplete, PortalSuspended, Ready, RowDescription}
+use Rattle.pg_flow.specs.declared.answer.Answer.TheVariants.{BindComplete, CloseComplete, CommandComplete, CopyBoth, CopyData, CopyDone, CopyIn, CopyOut, DataRow, EmptyQuery, Failure, FunctionResult, NoData, ParameterDescription, ParseComplete, PortalSuspended, Ready, RowDescription}
 use Rattle.pg_flow.specs.declared.place.Place.{Place}
-use Rattle.pg_flow.specs.declared.place.Place.TheVariants.{Asked, Failed, Given, Out, OutDone, Over, Parameters, Rows, Skipping, Start, Value, Withheld}
+use Rattle.pg_flow.specs.declared.place.Place.TheVariants.{Asked, Both, BothDone, BothIn, BothOut, Failed, Given, Out, OutDone, Over, Parameters, Rows, Skipping, Start, Value, Withheld}
 use Rattle.pg_flow.specs.declared.request.Request.{Request}
 use Rattle.pg_flow.specs.declared.request.Request.TheVariants.{Bind, Call, Close, DescribePortal, DescribeStatement, Execute, Parse, Query, Sync}
 use Rattle.pg_flow.specs.declared.table.Next.{Next}
 use Rattle.pg_flow.specs.declared.table.Next.TheVariants.{At, Done, Wrong}
-use Rattle.pg_flow.specs.Plain.{State, answers, at_place, failed_at, failed_ready, from_sync, given, is_asked, is_copy_in, resumed, said, said_to, state, went}
+use Rattle.pg_flow.specs.Plain.{State, answers, at_open, at_place, failed_at, failed_ready, from_sync, given, is_asked, is_open, may_end, opens_data, resumed, said, said_to, state, went}
 use Rattle.pg_flow.specs.ServerFlow.{Asks, Ends, Up}
-use Rattle.pg_flow.specs.Table.{at_bound, at_call, at_closed, at_complete, at_data, at_description, at_next_statement, at_parameters, at_parsed, at_portal, at_portal_rows, at_ready, at_row_sets, at_statement, in_call, in_execute, in_portal, in_query, in_statement, in_sync, next_of, only}
+use Rattle.pg_flow.specs.Table.{at_bound, at_call, at_closed, at_complete, at_data, at_data_both, at_description, at_last_rows, at_next_copy, at_next_statement, at_parameters, at_parsed, at_portal, at_portal_rows, at_ready, at_row_sets, at_statement, in_call, in_execute, in_portal, in_query, in_statement, in_sync, next_of, only}
 
--- data are asked for by CopyIn alone
+-- a COPY takes data by CopyIn and CopyBoth alone, but for one that takes some
 
 abbrev pub AskedBy : Answer → Next → Type 0
-AskedBy m (At Asked) = is_copy_in m ≡ true
+AskedBy m (At Asked) = opens_data m ≡ true
+AskedBy m (At Both) = opens_data m ≡ true
+AskedBy m (At BothIn) = opens_data m ≡ true
 AskedBy m _ = Unit {0}
+
+pub impossible : {A : Type 0} → false ≡ true → A
+impossible e = cc
 
 pub by_statement : (m : Answer) → AskedBy m (at_statement m)
 by_statement CopyIn = refl
+by_statement CopyBoth = refl
 by_statement RowDescription = tt
 by_statement CommandComplete = tt
 by_statement EmptyQuery = tt
@@ -54,15 +60,32 @@ pub by_ready : (m : Answer) → AskedBy m (at_ready m)
 by_ready Ready = tt
 by_ready _ = tt
 
-pub by_query : (place : Place) (m : Answer) → AskedBy m (in_query place m)
-by_query Start m = by_statement m
-by_query Over m = by_next_statement m
-by_query Rows m = by_row_sets m
-by_query Out m = by_data m
-by_query OutDone m = by_over m
-by_query Given m = by_over m
-by_query Failed m = by_ready m
-by_query _ m = tt
+pub by_last_rows : (m : Answer) → AskedBy m (at_last_rows m)
+by_last_rows RowDescription = tt
+by_last_rows CommandComplete = tt
+by_last_rows _ = tt
+
+pub by_next_copy : (m : Answer) → AskedBy m (at_next_copy m)
+by_next_copy CopyOut = tt
+by_next_copy m = by_last_rows m
+
+pub by_data_both : (m : Answer) → AskedBy m (at_data_both BothOut BothDone m)
+by_data_both CopyData = tt
+by_data_both CopyDone = tt
+by_data_both _ = tt
+
+pub by_query : (place : Place) (m : Answer) → is_open place ≡ false → AskedBy m (in_query place m)
+by_query Start m e = by_statement m
+by_query Over m e = by_next_statement m
+by_query Rows m e = by_row_sets m
+by_query Out m e = by_data m
+by_query OutDone m e = by_next_copy m
+by_query Given m e = by_over m
+by_query Both m e = impossible (sym e)
+by_query BothOut m e = by_data_both m
+by_query BothDone m e = by_last_rows m
+by_query Failed m e = by_ready m
+by_query _ m e = tt
 
 pub by_portal : (m : Answer) → AskedBy m (at_portal m)
 by_portal CopyIn = refl
@@ -136,16 +159,16 @@ pub by_only : (place : Place) (m : Answer) (n : Next) → AskedBy m n → AskedB
 by_only Start m n h = h
 by_only _ m n h = tt
 
-pub asked_by : (r : Request) (place : Place) (m : Answer) → AskedBy m (next_of r place m)
-asked_by Query place m = by_query place m
-asked_by Call place m = by_calls place m
-asked_by Parse place m = by_only place m (at_parsed m) (by_parsed m)
-asked_by Bind place m = by_only place m (at_bound m) (by_bound m)
-asked_by DescribeStatement place m = by_describe place m
-asked_by DescribePortal place m = by_portals place m
-asked_by Execute place m = by_execute place m
-asked_by Close place m = by_only place m (at_closed m) (by_closed m)
-asked_by Sync place m = by_sync place m
+pub asked_by : (r : Request) (place : Place) (m : Answer) → is_open place ≡ false → AskedBy m (next_of r place m)
+asked_by Query place m e = by_query place m e
+asked_by Call place m e = by_calls place m
+asked_by Parse place m e = by_only place m (at_parsed m) (by_parsed m)
+asked_by Bind place m e = by_only place m (at_bound m) (by_bound m)
+asked_by DescribeStatement place m e = by_describe place m
+asked_by DescribePortal place m e = by_portals place m
+asked_by Execute place m e = by_execute place m
+asked_by Close place m e = by_only place m (at_closed m) (by_closed m)
+asked_by Sync place m e = by_sync place m
 
 -- requests that are said one after another
 
@@ -172,14 +195,13 @@ has_end [] = false
 has_end (Asks r ∷ p) = has_end p
 has_end (Ends b ∷ p) = true
 
-pub impossible : {A : Type 0} → false ≡ true → A
-impossible e = cc
-
-pub given_not : (b : Bool) (place : Place) → is_asked place ≡ false → given b place ≡ place
+pub given_not : (b : Bool) (place : Place) → is_open place ≡ false → given b place ≡ place
 given_not b Asked e = impossible (sym e)
+given_not b Both e = impossible (sym e)
+given_not b BothIn e = impossible (sym e)
 given_not b _ e = refl
 
-pub placed_not : (p : List Up) (place : Place) → is_asked place ≡ false → placed p place ≡ place
+pub placed_not : (p : List Up) (place : Place) → is_open place ≡ false → placed p place ≡ place
 placed_not [] place e = refl
 placed_not (Asks r ∷ p) place e = placed_not p place e
 placed_not (Ends b ∷ p) place e = ap (placed p) (given_not b place e) ∙ placed_not p place e
@@ -189,7 +211,7 @@ up_behind [] r qs place = ap (λ (l : List Request). state (r ∷ l) place) (sym
 up_behind (Asks x ∷ p) r qs place = up_behind p r (qs ++ x ∷ []) place ∙ ap (λ (l : List Request). state (r ∷ l) (placed p place)) (append_assoc qs (x ∷ []) (asks p))
 up_behind (Ends b ∷ p) r qs place = up_behind p r qs (given b place)
 
-pub up_still : (p : List Up) (r : Request) (place : Place) → is_asked place ≡ false → pushes_up p (state (r ∷ []) place) ≡ state (r ∷ asks p) place
+pub up_still : (p : List Up) (r : Request) (place : Place) → is_open place ≡ false → pushes_up p (state (r ∷ []) place) ≡ state (r ∷ asks p) place
 up_still p r place e = up_behind p r [] place ∙ ap (λ (q : Place). state (r ∷ asks p) q) (placed_not p place e)
 
 pub up_idle : (p : List Up) → pushes_up p (state [] Start) ≡ state (asks p) Start
@@ -212,27 +234,34 @@ up_skipping (Ends b ∷ p) = up_skipping p
 
 -- what a server may say to one request, a client takes whatever it has said behind it
 
--- where data are asked for, nothing was said behind
+-- where data are to be said, nothing was said behind
 abbrev pub Alone : State → List Up → Type 0
-Alone s p = is_asked s.place ≡ true → p ≡ []
+Alone s p = is_open s.place ≡ true → p ≡ []
 
 abbrev pub Takes_it : List Up → Answer → Option State → State → Type 0
-Takes_it p m o s = ((o ≡ Some (pushes_up p s)) × Alone (pushes_up p s) p) ⊎ ((o ≡ None) × (is_copy_in m ≡ true))
+Takes_it p m o s = ((o ≡ Some (pushes_up p s)) × Alone (pushes_up p s) p) ⊎ ((o ≡ None) × (opens_data m ≡ true))
 
 abbrev pub Clean : List Up → Next → Type 0
 Clean p (At Asked) = has_end p ≡ false
+Clean p (At Both) = has_end p ≡ false
+Clean p (At BothIn) = has_end p ≡ false
 Clean p _ = Unit {0}
 
-pub never_asked : (s t : State) (p : List Up) → s ≡ t → is_asked t.place ≡ false → Alone s p
-never_asked s t p e f = λ h. impossible (sym f ∙ sym (ap (λ (u : State). is_asked u.place) e) ∙ h)
+pub never_asked : (s t : State) (p : List Up) → s ≡ t → is_open t.place ≡ false → Alone s p
+never_asked s t p e f = λ h. impossible (sym f ∙ sym (ap (λ (u : State). is_open u.place) e) ∙ h)
 
-pub taken_as : (o : Option State) (s t : State) (p : List Up) (m : Answer) → pushes_up p s ≡ t → o ≡ Some t → is_asked t.place ≡ false → Takes_it p m o s
+pub taken_as : (o : Option State) (s t : State) (p : List Up) (m : Answer) → pushes_up p s ≡ t → o ≡ Some t → is_open t.place ≡ false → Takes_it p m o s
 taken_as o s t p m e f g = inl (f ∙ ap Some (sym e), never_asked (pushes_up p s) t p e g)
 
+pub open_taken : (q : Place) (r : Request) (m : Answer) (p : List Up) → opens_data m ≡ true → has_end p ≡ false → IfSome (at_open q r []) (Takes_it p m (at_open q r (asks p)))
+open_taken q r m [] h k = inl (refl, (λ _. refl))
+open_taken q r m (Asks x ∷ p) h k = inr (refl, h)
+open_taken q r m (Ends b ∷ p) h k = impossible (sym k)
+
 pub place_taken : (q : Place) (r : Request) (m : Answer) (p : List Up) → AskedBy m (At q) → Clean p (At q) → IfSome (at_place q r []) (Takes_it p m (at_place q r (asks p)))
-place_taken Asked r m [] h k = inl (refl, (λ _. refl))
-place_taken Asked r m (Asks x ∷ p) h k = inr (refl, h)
-place_taken Asked r m (Ends b ∷ p) h k = impossible (sym k)
+place_taken Asked r m p h k = open_taken Asked r m p h k
+place_taken Both r m p h k = open_taken Both r m p h k
+place_taken BothIn r m p h k = open_taken BothIn r m p h k
 place_taken q r m p h k = taken_as (Some (state (r ∷ asks p) q)) (state (r ∷ []) q) (state (r ∷ asks p) q) p m (up_still p r q refl) refl refl
 
 pub went_taken : (n : Next) (r : Request) (m : Answer) (p : List Up) → AskedBy m n → Clean p n → IfSome (went n r []) (Takes_it p m (went n r (asks p)))
@@ -240,23 +269,31 @@ went_taken (At q) r m p h k = place_taken q r m p h k
 went_taken Done r m p h k = taken_as (Some (state (asks p) Start)) (state [] Start) (state (asks p) Start) p m (up_idle p) refl refl
 went_taken Wrong r m p h k = tt
 
-pub fails_given : (b : Bool) (p : List Up) (r : Request) (rs : List Request) → failed_ready (placed p (if b then Given else Withheld)) r rs ≡ Some (state (r ∷ rs) Failed)
-fails_given true p r rs = ap (λ (q : Place). failed_ready q r rs) (placed_not p Given refl)
-fails_given false p r rs = ap (λ (q : Place). failed_ready q r rs) (placed_not p Withheld refl)
+abbrev pub is_failed : Place → Bool
+is_failed Failed = true
+is_failed _ = false
 
-pub fails_asked : (p : List Up) (r : Request) (rs : List Request) → failed_ready (placed p Asked) r rs ≡ Some (state (r ∷ rs) Failed)
-fails_asked [] r rs = refl
-fails_asked (Asks x ∷ p) r rs = fails_asked p r rs
-fails_asked (Ends b ∷ p) r rs = fails_given b p r rs
+pub given_fails : (b : Bool) (place : Place) → is_failed place ≡ false → is_failed (given b place) ≡ false
+given_fails true Asked e = refl
+given_fails false Asked e = refl
+given_fails true Both e = refl
+given_fails false Both e = refl
+given_fails true BothIn e = refl
+given_fails false BothIn e = refl
+given_fails b _ e = e
+
+pub fails : (p : List Up) (place : Place) (r : Request) (rs : List Request) → is_failed place ≡ false → failed_ready (placed p place) r rs ≡ Some (state (r ∷ rs) Failed)
+fails [] Failed r rs e = impossible (sym e)
+fails [] _ r rs e = refl
+fails (Asks x ∷ p) place r rs e = fails p place r rs e
+fails (Ends b ∷ p) place r rs e = fails p (given b place) r rs (given_fails b place e)
 
 pub ready_taken : (place : Place) (r : Request) (p : List Up) → IfSome (failed_ready place r []) (Takes_it p Failure (failed_ready (placed p place) r (asks p)))
 ready_taken Failed r p = tt
-ready_taken Asked r p = taken_as (failed_ready (placed p Asked) r (asks p)) (state (r ∷ []) Failed) (state (r ∷ asks p) Failed) p Failure (up_still p r Failed refl) (fails_asked p r (asks p)) refl
 ready_taken place r p =
-    taken_as (failed_ready (placed p place) r (asks p)) (state (r ∷ []) Failed) (state (r ∷ asks p) Failed) p Failure (up_still p r Failed refl)
-    (ap (λ (q : Place). failed_ready q r (asks p)) (placed_not p place refl)) refl
+    taken_as (failed_ready (placed p place) r (asks p)) (state (r ∷ []) Failed) (state (r ∷ asks p) Failed) p Failure (up_still p r Failed refl) (fails p place r (asks p) refl) refl
 
-pub resumed_not : (qs : List Request) → is_asked (resumed qs).place ≡ false
+pub resumed_not : (qs : List Request) → is_open (resumed qs).place ≡ false
 resumed_not [] = refl
 resumed_not (q ∷ qs) = refl
 
@@ -280,26 +317,88 @@ asked_none Execute m P = tt
 asked_none Close m P = tt
 asked_none Sync m P = tt
 
-pub still_taken : (place : Place) (r : Request) (m : Answer) (p : List Up) → is_asked place ≡ false → Clean p (next_of r place m) →
+-- while data go both ways, the client may have ended its own
+pub both_way : (p : List Up) → (placed p Both ≡ Both) ⊎ ((placed p Both ≡ BothOut) × (placed p BothIn ≡ BothDone))
+both_way [] = inl refl
+both_way (Asks r ∷ p) = both_way p
+both_way (Ends true ∷ p) = inr (placed_not p BothOut refl, placed_not p BothDone refl)
+both_way (Ends false ∷ p) = both_way p
+
+pub both_alone : (r : Request) (p : List Up) → Alone (pushes_up p (state (r ∷ []) Both)) p → placed p Both ≡ Both → p ≡ []
+both_alone r p a e = a (ap (λ (s : State). is_open s.place) (up_behind p r [] Both) ∙ ap is_open e)
+
+abbrev pub Both_taken : Answer → List Up → Type 0
+Both_taken m p = IfSome (went (in_query Both m) Query []) (Takes_it p m (went (in_query (placed p Both) m) Query (asks p)))
+
+pub both_first : (m : Answer) → Both_taken m []
+both_first CopyData = inl (refl, (λ _. refl))
+both_first CopyDone = inl (refl, (λ _. refl))
+both_first _ = tt
+
+abbrev pub Out_taken : Answer → List Up → Place → Type 0
+Out_taken m p q = IfSome (went (in_query Both m) Query []) (Takes_it p m (went (in_query q m) Query (asks p)))
+
+pub both_out : (m : Answer) (p : List Up) → placed p Both ≡ BothOut → placed p BothIn ≡ BothDone → Out_taken m p BothOut
+both_out CopyData p e f =
+    taken_as (Some (state (Query ∷ asks p) BothOut)) (state (Query ∷ []) Both) (state (Query ∷ asks p) BothOut) p CopyData
+    (up_behind p Query [] Both ∙ ap (λ (q : Place). state (Query ∷ asks p) q) e) refl refl
+both_out CopyDone p e f =
+    taken_as (Some (state (Query ∷ asks p) BothDone)) (state (Query ∷ []) BothIn) (state (Query ∷ asks p) BothDone) p CopyDone
+    (up_behind p Query [] BothIn ∙ ap (λ (q : Place). state (Query ∷ asks p) q) f) refl refl
+both_out _ p e f = tt
+
+pub both_by : (m : Answer) (p : List Up) → Alone (pushes_up p (state (Query ∷ []) Both)) p → (placed p Both ≡ Both) ⊎ ((placed p Both ≡ BothOut) × (placed p BothIn ≡ BothDone)) → Both_taken m p
+both_by m p a (inl e) = subst (Both_taken m) (sym (both_alone Query p a e)) (both_first m)
+both_by m p a (inr (e, f)) = subst (Out_taken m p) (sym e) (both_out m p e f)
+
+pub both_taken : (r : Request) (m : Answer) (p : List Up) → Alone (pushes_up p (state (r ∷ []) Both)) p →
+    IfSome (went (next_of r Both m) r []) (Takes_it p m (went (next_of r (placed p Both) m) r (asks p)))
+both_taken Query m p a = both_by m p a (both_way p)
+both_taken Call m p a = tt
+both_taken Parse m p a = tt
+both_taken Bind m p a = tt
+both_taken DescribeStatement m p a = tt
+both_taken DescribePortal m p a = tt
+both_taken Execute m p a = tt
+both_taken Close m p a = tt
+both_taken Sync m p a = tt
+
+pub in_none : (r : Request) (m : Answer) (P : State → Type 0) → IfSome (went (next_of r BothIn m) r []) P
+in_none Query m P = tt
+in_none Call m P = tt
+in_none Parse m P = tt
+in_none Bind m P = tt
+in_none DescribeStatement m P = tt
+in_none DescribePortal m P = tt
+in_none Execute m P = tt
+in_none Close m P = tt
+in_none Sync m P = tt
+
+pub still_taken : (place : Place) (r : Request) (m : Answer) (p : List Up) → is_open place ≡ false → Clean p (next_of r place m) →
     IfSome (went (next_of r place m) r []) (Takes_it p m (went (next_of r (placed p place) m) r (asks p)))
 still_taken place r m p e k =
     let P : Place → Type 0 = λ q. IfSome (went (next_of r place m) r []) (Takes_it p m (went (next_of r q m) r (asks p))) in
-    subst P (sym (placed_not p place e)) (went_taken (next_of r place m) r m p (asked_by r place m) k)
+    subst P (sym (placed_not p place e)) (went_taken (next_of r place m) r m p (asked_by r place m e) k)
 
-pub next_taken : (place : Place) (r : Request) (m : Answer) (p : List Up) → Clean p (next_of r place m) →
+pub next_taken : (place : Place) (r : Request) (m : Answer) (p : List Up) → (is_open place ≡ false → Clean p (next_of r place m)) → Alone (pushes_up p (state (r ∷ []) place)) p →
     IfSome (went (next_of r place m) r []) (Takes_it p m (went (next_of r (placed p place) m) r (asks p)))
-next_taken Asked r m p k = asked_none r m (Takes_it p m (went (next_of r (placed p Asked) m) r (asks p)))
-next_taken place r m p k = still_taken place r m p refl k
+next_taken Asked r m p k a = asked_none r m (Takes_it p m (went (next_of r (placed p Asked) m) r (asks p)))
+next_taken Both r m p k a = both_taken r m p a
+next_taken BothIn r m p k a = in_none r m (Takes_it p m (went (next_of r (placed p BothIn) m) r (asks p)))
+next_taken place r m p k a = still_taken place r m p refl (k refl)
 
-pub answer_taken : (m : Answer) (r : Request) (place : Place) (p : List Up) → Clean p (next_of r place m) → IfSome (answers m r place []) (Takes_it p m (answers m r (placed p place) (asks p)))
-answer_taken Failure r place p k = failed_taken r place p
-answer_taken m r place p k = next_taken place r m p k
+pub answer_taken : (m : Answer) (r : Request) (place : Place) (p : List Up) → (is_open place ≡ false → Clean p (next_of r place m)) → Alone (pushes_up p (state (r ∷ []) place)) p →
+    IfSome (answers m r place []) (Takes_it p m (answers m r (placed p place) (asks p)))
+answer_taken Failure r place p k a = failed_taken r place p
+answer_taken m r place p k a = next_taken place r m p k a
 
 -- an end of data may be on its way that comes to nothing, where the COPY has failed
 
 abbrev pub Late : List Request → Place → Type 0
 Late [] place = Unit {0}
 Late (r ∷ rs) Asked = Unit {0}
+Late (r ∷ rs) Both = Unit {0}
+Late (r ∷ rs) BothIn = Unit {0}
 Late (r ∷ rs) Failed = Unit {0}
 Late (r ∷ rs) _ = ⊥
 
@@ -313,6 +412,8 @@ Tidy s p = (has_end p ≡ false) ⊎ Stale s.queue s.place p
 
 pub clean_none : (n : Next) (p : List Up) → has_end p ≡ false → Clean p n
 clean_none (At Asked) p e = e
+clean_none (At Both) p e = e
+clean_none (At BothIn) p e = e
 clean_none (At _) p e = tt
 clean_none Done p e = tt
 clean_none Wrong p e = tt
@@ -321,35 +422,32 @@ pub ready_clean : (m : Answer) (p : List Up) → Clean p (at_ready m)
 ready_clean Ready p = tt
 ready_clean _ p = tt
 
-pub late_clean : (r : Request) (place : Place) (m : Answer) (p : List Up) → Late (r ∷ []) place → Clean p (next_of r place m)
-late_clean Query Failed m p h = ready_clean m p
-late_clean Call Failed m p h = ready_clean m p
-late_clean Sync Failed m p h = ready_clean m p
-late_clean Parse Failed m p h = tt
-late_clean Bind Failed m p h = tt
-late_clean DescribeStatement Failed m p h = tt
-late_clean DescribePortal Failed m p h = tt
-late_clean Execute Failed m p h = tt
-late_clean Close Failed m p h = tt
-late_clean Query Asked m p h = tt
-late_clean Call Asked m p h = tt
-late_clean Sync Asked m p h = tt
-late_clean Parse Asked m p h = tt
-late_clean Bind Asked m p h = tt
-late_clean DescribeStatement Asked m p h = tt
-late_clean DescribePortal Asked m p h = tt
-late_clean Execute Asked m p h = tt
-late_clean Close Asked m p h = tt
-late_clean r _ m p h = absurd h
+pub failed_clean : (r : Request) (m : Answer) (p : List Up) → Clean p (next_of r Failed m)
+failed_clean Query m p = ready_clean m p
+failed_clean Call m p = ready_clean m p
+failed_clean Sync m p = ready_clean m p
+failed_clean Parse m p = tt
+failed_clean Bind m p = tt
+failed_clean DescribeStatement m p = tt
+failed_clean DescribePortal m p = tt
+failed_clean Execute m p = tt
+failed_clean Close m p = tt
 
-pub stale_clean : (r : Request) (place : Place) (m : Answer) (p : List Up) → Stale (r ∷ []) place p → Clean p (next_of r place m)
-stale_clean r place m [] h = absurd h
-stale_clean r place m (Asks x ∷ p) h = absurd h
-stale_clean r place m (Ends b ∷ p) h = late_clean r place m (Ends b ∷ p) h.1
+pub late_clean : (r : Request) (place : Place) (m : Answer) (p : List Up) → is_open place ≡ false → Late (r ∷ []) place → Clean p (next_of r place m)
+late_clean r Failed m p e h = failed_clean r m p
+late_clean r Asked m p e h = impossible (sym e)
+late_clean r Both m p e h = impossible (sym e)
+late_clean r BothIn m p e h = impossible (sym e)
+late_clean r _ m p e h = absurd h
 
-pub tidy_clean : (r : Request) (place : Place) (m : Answer) (p : List Up) → Tidy (state (r ∷ []) place) p → Clean p (next_of r place m)
-tidy_clean r place m p (inl e) = clean_none (next_of r place m) p e
-tidy_clean r place m p (inr h) = stale_clean r place m p h
+pub stale_clean : (r : Request) (place : Place) (m : Answer) (p : List Up) → is_open place ≡ false → Stale (r ∷ []) place p → Clean p (next_of r place m)
+stale_clean r place m [] e h = absurd h
+stale_clean r place m (Asks x ∷ p) e h = absurd h
+stale_clean r place m (Ends b ∷ p) e h = late_clean r place m (Ends b ∷ p) e h.1
+
+pub tidy_clean : (r : Request) (place : Place) (m : Answer) (p : List Up) → Tidy (state (r ∷ []) place) p → is_open place ≡ false → Clean p (next_of r place m)
+tidy_clean r place m p (inl h) e = clean_none (next_of r place m) p h
+tidy_clean r place m p (inr h) e = stale_clean r place m p e h
 
 abbrev pub Late_then : Option State → Type 0
 Late_then o = IfSome o (λ s. Late s.queue s.place)
@@ -362,33 +460,43 @@ pub fails_late : (r : Request) (place : Place) → Late (r ∷ []) place → Lat
 fails_late Query Failed h = tt
 fails_late Call Failed h = tt
 fails_late Sync Failed h = tt
-fails_late Query Asked h = tt
-fails_late Call Asked h = tt
-fails_late Sync Asked h = tt
-fails_late Query _ h = absurd h
-fails_late Call _ h = absurd h
-fails_late Sync _ h = absurd h
+fails_late Query _ h = tt
+fails_late Call _ h = tt
+fails_late Sync _ h = tt
 fails_late _ place h = tt
 
+pub failed_late : (r : Request) (m : Answer) → Late_then (went (next_of r Failed m) r [])
+failed_late Query m = ready_late m Query
+failed_late Call m = ready_late m Call
+failed_late Sync m = ready_late m Sync
+failed_late Parse m = tt
+failed_late Bind m = tt
+failed_late DescribeStatement m = tt
+failed_late DescribePortal m = tt
+failed_late Execute m = tt
+failed_late Close m = tt
+
+pub query_both_late : (m : Answer) → Late_then (went (in_query Both m) Query [])
+query_both_late CopyData = tt
+query_both_late CopyDone = tt
+query_both_late _ = tt
+
+pub both_late : (r : Request) (m : Answer) → Late_then (went (next_of r Both m) r [])
+both_late Query m = query_both_late m
+both_late Call m = tt
+both_late Sync m = tt
+both_late Parse m = tt
+both_late Bind m = tt
+both_late DescribeStatement m = tt
+both_late DescribePortal m = tt
+both_late Execute m = tt
+both_late Close m = tt
+
 pub went_late : (r : Request) (place : Place) (m : Answer) → Late (r ∷ []) place → Late_then (went (next_of r place m) r [])
-went_late Query Failed m h = ready_late m Query
-went_late Call Failed m h = ready_late m Call
-went_late Sync Failed m h = ready_late m Sync
-went_late Parse Failed m h = tt
-went_late Bind Failed m h = tt
-went_late DescribeStatement Failed m h = tt
-went_late DescribePortal Failed m h = tt
-went_late Execute Failed m h = tt
-went_late Close Failed m h = tt
-went_late Query Asked m h = tt
-went_late Call Asked m h = tt
-went_late Sync Asked m h = tt
-went_late Parse Asked m h = tt
-went_late Bind Asked m h = tt
-went_late DescribeStatement Asked m h = tt
-went_late DescribePortal Asked m h = tt
-went_late Execute Asked m h = tt
-went_late Close Asked m h = tt
+went_late r Failed m h = failed_late r m
+went_late r Asked m h = asked_none r m (λ s. Late s.queue s.place)
+went_late r Both m h = both_late r m
+went_late r BothIn m h = in_none r m (λ s. Late s.queue s.place)
 went_late r _ m h = absurd h
 
 pub answer_late : (m : Answer) (r : Request) (place : Place) → Late (r ∷ []) place → Late_then (answers m r place [])
@@ -432,20 +540,34 @@ pub tidy_last : (s : State) (p : List Up) (r : Request) → Tidy s p → Tidy s 
 tidy_last s p r (inl e) = inl (has_end_last p r ∙ e)
 tidy_last s p r (inr h) = inr (stale_last s.queue s.place p r h)
 
-pub said_not : (qs : List Request) (place : Place) (r : Request) → is_asked place ≡ false → is_asked (said_to qs place r).place ≡ false
+pub said_not : (qs : List Request) (place : Place) (r : Request) → is_open place ≡ false → is_open (said_to qs place r).place ≡ false
 said_not [] Skipping Sync e = refl
 said_not [] Skipping _ e = refl
 said_not [] _ r e = refl
 said_not (q ∷ qs) place r e = e
 
-pub given_gone : (b : Bool) (place : Place) → is_asked place ≡ true → is_asked (given b place) ≡ false
+pub given_gone : (b : Bool) (place : Place) → may_end b place ≡ true → is_open (given b place) ≡ false
 given_gone true Asked e = refl
 given_gone false Asked e = refl
+given_gone true Both e = refl
+given_gone true BothIn e = refl
 given_gone b _ e = impossible e
 
-pub late_asked : (qs : List Request) (place : Place) → is_asked place ≡ true → Late qs place
+pub given_asked : (b : Bool) → is_asked (given b Asked) ≡ false
+given_asked true = refl
+given_asked false = refl
+
+pub ends_open : (b : Bool) (place : Place) → may_end b place ≡ true → is_open place ≡ true
+ends_open b Asked e = refl
+ends_open b Both e = refl
+ends_open b BothIn e = refl
+ends_open b _ e = impossible e
+
+pub late_asked : (qs : List Request) (place : Place) → is_open place ≡ true → Late qs place
 late_asked [] place e = tt
 late_asked (q ∷ qs) Asked e = tt
+late_asked (q ∷ qs) Both e = tt
+late_asked (q ∷ qs) BothIn e = tt
 late_asked (q ∷ qs) _ e = impossible e
 
 pub asks_ends : (p : List Up) (b : Bool) → asks (p ++ Ends b ∷ []) ≡ asks p

@@ -5,10 +5,10 @@ use Rattle.pg_flow.specs.declared.place.Place.{Place}
 use Rattle.pg_flow.specs.declared.place.Place.TheVariants.{Asked, Given, Skipping, Start, Withheld}
 use Rattle.pg_flow.specs.declared.request.Request.{Request}
 use Rattle.pg_flow.specs.declared.request.Request.TheVariants.{Execute, Sync}
-use Rattle.pg_flow.specs.ClientFlow.{Client, Copying, Group, Plain, behind, end_data, is_only_execute, lead, number, say, say_asked, say_behind, say_group}
-use Rattle.pg_flow.specs.Plain.{State, given, is_asked, is_sync, said, state}
+use Rattle.pg_flow.specs.ClientFlow.{Client, Copying, Group, Plain, behind, end_data, is_only_execute, lead, number, say, say_asked, say_behind, say_group, say_open}
+use Rattle.pg_flow.specs.Plain.{State, given, is_asked, is_open, is_sync, may_end, said, state}
 use Rattle.pg_flow.specs.ServerFlow.{Asks, Busy, Ends, Idle, Server, Skips, Up}
-use Rattle.pg_flow.proofs.PlainLemmas.{Tidy, asks, asks_last, given_gone, has_end_last, impossible, late_asked, push, pushes_last, pushes_up, said_not, tidy_last}
+use Rattle.pg_flow.proofs.PlainLemmas.{Tidy, asks, asks_last, ends_open, given_asked, given_gone, has_end_last, impossible, late_asked, push, pushes_last, pushes_up, said_not, tidy_last}
 use Rattle.pg_flow.proofs.RestLemmas.{rest}
 use Rattle.pg_flow.proofs.CoversLemmas.{Awaits, Copy_as, Copy_at, Copy_covers, Covers, Group_busy, Group_covers, Neat, Numbered, Plain_covers, Reads, Rest_is, Sync_first, behind_up, lead_up, plain_of}
 use Rattle.pg_flow.proofs.TakesLemmas.{neat_clean}
@@ -60,17 +60,22 @@ asked_if : (b : Bool) (s : Server) (n count : ℕ) (p : List Up) → (b ≡ true
 asked_if true s n count p h = h refl
 asked_if false s n count p h = tt
 
-asked_says : (r : Request) (c : State) (p : List Up) (s : Server) (n count : ℕ) → is_asked c.place ≡ true → Plain_covers c p s count → n ≡ count + length (asks p) →
+asked_says : (r : Request) (c : State) (p : List Up) (s : Server) (n count : ℕ) → is_open c.place ≡ true → is_asked c.place ≡ true → Plain_covers c p s count → n ≡ count + length (asks p) →
     Said_ok p (Asks r) s (n + 1) count (say_asked c.queue r)
-asked_says Sync c p s n count b h e =
-    let none : p ≡ [] = h.alone b in
+asked_says Sync c p s n count o b h e =
+    let none : p ≡ [] = h.alone o in
     let same : c ≡ plain_of s = h.like ∙ ap (λ (l : List Up). pushes_up l (plain_of s)) none in
     asked_if (is_only_execute c.queue) s n count p (λ a. nothing_on_its_way s n count p none e (reading s count c.queue c.place same a b h.numbered))
-asked_says _ c p s n count b h e = tt
+asked_says _ c p s n count o b h e = tt
 
-plain_says_if : (b : Bool) (r : Request) (c : State) (p : List Up) (s : Server) (n count : ℕ) → is_asked c.place ≡ b → Plain_covers c p s count → n ≡ count + length (asks p) →
-    Said_ok p (Asks r) s (n + 1) count (if b then say_asked c.queue r else Some (Plain (said r c)))
-plain_says_if true r c p s n count b h e = asked_says r c p s n count b h e
+open_says : (b : Bool) (r : Request) (c : State) (p : List Up) (s : Server) (n count : ℕ) → is_open c.place ≡ true → is_asked c.place ≡ b → Plain_covers c p s count → n ≡ count + length (asks p) →
+    Said_ok p (Asks r) s (n + 1) count (if b then say_asked c.queue r else None)
+open_says true r c p s n count o b h e = asked_says r c p s n count o b h e
+open_says false r c p s n count o b h e = tt
+
+plain_says_if : (b : Bool) (r : Request) (c : State) (p : List Up) (s : Server) (n count : ℕ) → is_open c.place ≡ b → Plain_covers c p s count → n ≡ count + length (asks p) →
+    Said_ok p (Asks r) s (n + 1) count (if b then say_open c.queue c.place r else Some (Plain (said r c)))
+plain_says_if true r c p s n count b h e = open_says (is_asked c.place) r c p s n count b refl h e
 plain_says_if false r c p s n count b h e =
     record {
       like = ap (said r) h.like ∙ sym (pushes_last p (Asks r) (plain_of s));
@@ -84,7 +89,7 @@ reads_sync [] j rest place h e = h
 reads_sync (Asks Sync ∷ p) (suc j) rest place h e = reads_sync p j rest place h e
 reads_sync (Asks Sync ∷ p) zero rest place h e = absurd h
 reads_sync (Asks _ ∷ p) j rest place h e = absurd h
-reads_sync (Ends b ∷ p) j rest place h e = impossible (sym (given_gone b Asked refl) ∙ sym (ap is_asked h.0) ∙ e)
+reads_sync (Ends b ∷ p) j rest place h e = impossible (sym (given_asked b) ∙ sym (ap is_asked h.0) ∙ e)
 
 reads_rest : (p : List Up) (j : ℕ) (rest : List Request) (place : Place) (r : Request) → Reads p j rest place → is_asked place ≡ false → Reads (p ++ Asks r ∷ []) j (rest ++ r ∷ []) place
 reads_rest [] j rest place r h e = impossible (sym e ∙ ap is_asked h.0)
@@ -262,18 +267,19 @@ group_says (x ∷ xs) skips r first l m p s n count h =
     group_grows s first l l m 0 (x ∷ xs) (x ∷ (xs ++ r ∷ [])) skips skips p (p ++ Asks r ∷ []) count (grows_rest l x xs skips p r count) h
 
 pub covers_says : (r : Request) (c : Client) (p : List Up) (s : Server) (n count : ℕ) → Covers c p s n count → n ≡ count + length (asks p) → Said_ok p (Asks r) s (n + 1) count (say r c)
-covers_says r (Plain c) p s n count h e = plain_says_if (is_asked c.place) r c p s n count refl h e
+covers_says r (Plain c) p s n count h e = plain_says_if (is_open c.place) r c p s n count refl h e
 covers_says r (Copying k rest place) p s n count h e = copy_says_if (is_asked place) r k rest place p s n count h refl
 covers_says r (Group first l m rest skips) p s n count h e = group_says rest skips r first l m p s n count h
 
 -- the client says the end of the data
 
-plain_ends_if : (b whole : Bool) (c : State) (p : List Up) (s : Server) (n count : ℕ) → is_asked c.place ≡ b → Plain_covers c p s count →
+plain_ends_if : (b whole : Bool) (c : State) (p : List Up) (s : Server) (n count : ℕ) → may_end whole c.place ≡ b → Plain_covers c p s count →
     Said_ok p (Ends whole) s n count (if b then Some (Plain (state c.queue (given whole c.place))) else None)
 plain_ends_if true whole c p s n count b h =
-    let none : p ≡ [] = h.alone b in
+    let open_now : is_open c.place ≡ true = ends_open whole c.place b in
+    let none : p ≡ [] = h.alone open_now in
     let same : c ≡ plain_of s = h.like ∙ ap (λ (l : List Up). pushes_up l (plain_of s)) none in
-    let asked : is_asked (plain_of s).place ≡ true = subst (λ (u : State). is_asked u.place ≡ true) same b in
+    let asked : is_open (plain_of s).place ≡ true = subst (λ (u : State). is_open u.place ≡ true) same open_now in
     record {
       like = ap (push (Ends whole)) h.like ∙ sym (pushes_last p (Ends whole) (plain_of s));
       tidy = subst (λ (l : List Up). Tidy (plain_of s) (l ++ Ends whole ∷ [])) (sym none) (inr (refl, late_asked (plain_of s).queue (plain_of s).place asked));
@@ -287,7 +293,7 @@ reads_ends [] j rest place b h e = (ap (given b) h.0, sym h.1, refl)
 reads_ends (Asks Sync ∷ p) (suc j) rest place b h e = reads_ends p j rest place b h e
 reads_ends (Asks Sync ∷ p) zero rest place b h e = absurd h
 reads_ends (Asks _ ∷ p) j rest place b h e = absurd h
-reads_ends (Ends c ∷ p) j rest place b h e = impossible (sym (given_gone c Asked refl) ∙ sym (ap is_asked h.0) ∙ e)
+reads_ends (Ends c ∷ p) j rest place b h e = impossible (sym (given_asked c) ∙ sym (ap is_asked h.0) ∙ e)
 
 copy_end_at : (q : Place) (k : ℕ) (rest : List Request) (place : Place) (p : List Up) (b : Bool) → Copy_at q k rest place p → is_asked place ≡ true → Copy_at q k rest (given b place) (p ++ Ends b ∷ [])
 copy_end_at Asked k rest place p b h e = reads_ends p (suc k) rest place b h e
@@ -306,6 +312,6 @@ copy_ends_if true whole k rest place p s n count b h = copy_ends k rest place p 
 copy_ends_if false whole k rest place p s n count b h = tt
 
 pub covers_ends : (whole : Bool) (c : Client) (p : List Up) (s : Server) (n count : ℕ) → Covers c p s n count → Said_ok p (Ends whole) s n count (end_data whole c)
-covers_ends whole (Plain c) p s n count h = plain_ends_if (is_asked c.place) whole c p s n count refl h
+covers_ends whole (Plain c) p s n count h = plain_ends_if (may_end whole c.place) whole c p s n count refl h
 covers_ends whole (Copying k rest place) p s n count h = copy_ends_if (is_asked place) whole k rest place p s n count refl h
 covers_ends whole (Group first l m rest skips) p s n count h = tt

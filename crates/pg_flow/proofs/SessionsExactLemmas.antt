@@ -2,9 +2,9 @@
 use Rattle.std.proofs.Common.{◌≡◌, List, [], ◌∷◌, ◌++◌, inl, inr, refl, sym, ap, ◌∙◌, subst, append-nil, append_assoc, Bool, true, false, Option, Some, None}
 use Rattle.std.specs.Prelude.{if◌then◌else◌}
 use Rattle.pg_flow.specs.declared.answer.Answer.{Answer}
-use Rattle.pg_flow.specs.declared.answer.Answer.TheVariants.{CopyIn, Failure, Ready}
+use Rattle.pg_flow.specs.declared.answer.Answer.TheVariants.{CopyBoth, CopyIn, Failure, Ready}
 use Rattle.pg_flow.specs.declared.place.Place.{Place}
-use Rattle.pg_flow.specs.declared.place.Place.TheVariants.{Asked, Failed, Skipping, Start}
+use Rattle.pg_flow.specs.declared.place.Place.TheVariants.{Asked, Both, BothIn, Failed, Skipping, Start}
 use Rattle.pg_flow.specs.declared.request.Request.{Request}
 use Rattle.pg_flow.specs.declared.request.Request.TheVariants.{Bind, Call, Close, DescribePortal, DescribeStatement, Execute, Parse, Query, Sync}
 use Rattle.pg_flow.specs.declared.table.Next.{Next}
@@ -12,7 +12,7 @@ use Rattle.pg_flow.specs.declared.table.Next.TheVariants.{At, Done, Wrong}
 use Rattle.pg_flow.specs.Answered.{Answered, Choose, OneOf, Parts}
 use Rattle.pg_flow.specs.ClientFlow.{Plain}
 use Rattle.pg_flow.specs.Pattern.{Is, Matches, Pattern, Then}
-use Rattle.pg_flow.specs.Plain.{State, answers, at_place, ends_ready, failed_at, failed_ready, from_sync, is_asked, resumed, said, said_to, state, went}
+use Rattle.pg_flow.specs.Plain.{State, answers, at_place, ends_ready, failed_at, failed_ready, from_sync, is_open, resumed, said, said_to, state, went}
 use Rattle.pg_flow.specs.Sessions.{AsksForNone, Event, Got, IsTakenWhole, Sent, all_heard, all_said, as_plain, run, steps}
 use Rattle.pg_flow.specs.Table.{next_of}
 use Rattle.pg_flow.proofs.DeriveLemmas.{derive, derived, nullable, when_empty}
@@ -129,6 +129,8 @@ fit_resumed (q ∷ qs) = refl
 
 at_on : (p : Place) (r : Request) (rs : List Request) (ms : List Answer) → usual p r ≡ true → After (r ∷ rs) p [] ms → Goes_on (at_place p r rs) ms
 at_on Asked r rs ms e h = impossible e
+at_on Both r rs ms e h = impossible e
+at_on BothIn r rs ms e h = impossible e
 at_on p r rs ms e h = record { next = state (r ∷ rs) p; is_next = refl; fits = e; allows = h }
 
 went_on : (n : Next) (r : Request) (place : Place) (m : Answer) (rs : List Request) (ms : List Answer) → (m ≡ Failure → ⊥) → nullable (rest place r) ≡ false →
@@ -185,10 +187,12 @@ answer_on : (m : Answer) (r : Request) (place : Place) (rs : List Request) (ms :
     After (r ∷ rs) place [] (m ∷ ms) → Goes_on (answers m r place rs) ms
 answer_on Failure r place rs ms e none h = failed_on r place rs ms e h
 answer_on CopyIn r place rs ms e none h = absurd none
+answer_on CopyBoth r place rs ms e none h = absurd none
 answer_on m r place rs ms e none h = went_on (next_of r place m) r place m rs ms (λ f. cc) (not_over r place e) (exact r place e m) h
 
 asks_later : (m : Answer) (ms : List Answer) → AsksForNone (m ∷ ms) → AsksForNone ms
 asks_later CopyIn ms h = absurd h
+asks_later CopyBoth ms h = absurd h
 asks_later _ ms h = h
 
 -- nothing is left where nothing comes
@@ -231,16 +235,16 @@ pushes_idle : (p : List Request) → pushes p (state [] Start) ≡ state p Start
 pushes_idle [] = refl
 pushes_idle (r ∷ p) = pushes_behind p r [] Start
 
-said_calm : (qs : List Request) (place : Place) (r : Request) → is_asked place ≡ false → is_asked (said_to qs place r).place ≡ false
+said_calm : (qs : List Request) (place : Place) (r : Request) → is_open place ≡ false → is_open (said_to qs place r).place ≡ false
 said_calm (q ∷ qs) place r e = e
 said_calm [] Skipping Sync e = refl
 said_calm [] Skipping _ e = refl
 said_calm [] _ r e = refl
 
-says_one : (r : Request) (s : State) → is_asked s.place ≡ false → as_plain (steps (Sent r) (Plain s)) ≡ Some (said r s)
+says_one : (r : Request) (s : State) → is_open s.place ≡ false → as_plain (steps (Sent r) (Plain s)) ≡ Some (said r s)
 says_one r s e = steps_plain (Sent r) s ∙ ap (λ (b : Bool). if b then None else Some (said r s)) e
 
-said_first_all : (rs : List Request) (es : List Event) (s : State) → is_asked s.place ≡ false → run (all_said rs ++ es) (Some s) ≡ run es (Some (pushes rs s))
+said_first_all : (rs : List Request) (es : List Event) (s : State) → is_open s.place ≡ false → run (all_said rs ++ es) (Some s) ≡ run es (Some (pushes rs s))
 said_first_all [] es s e = refl
 said_first_all (r ∷ rs) es s e = ap (run (all_said rs ++ es)) (says_one r s e) ∙ said_first_all rs es (said r s) (said_calm s.queue s.place r e)
 

@@ -4,20 +4,21 @@ use Rattle.std.specs.Prelude.{ℕ, IfSome, length, if◌then◌else◌}
 use Rattle.pg_flow.specs.declared.answer.Answer.{Answer}
 use Rattle.pg_flow.specs.declared.answer.Answer.TheVariants.{Failure, Ready}
 use Rattle.pg_flow.specs.declared.place.Place.{Place}
-use Rattle.pg_flow.specs.declared.place.Place.TheVariants.{Asked, Failed, Given, Out, OutDone, Over, Rows, Skipping, Start, Value, Withheld}
+use Rattle.pg_flow.specs.declared.place.Place.TheVariants.{Asked, Both, BothDone, BothIn, BothOut, Failed, Given, Out, OutDone, Over, Rows, Skipping, Start, Value, Withheld}
 use Rattle.pg_flow.specs.declared.request.Request.{Request}
 use Rattle.pg_flow.specs.declared.request.Request.TheVariants.{Bind, Call, Close, DescribePortal, DescribeStatement, Execute, Parse, Query, Sync}
 use Rattle.pg_flow.specs.declared.table.Next.{Next}
 use Rattle.pg_flow.specs.declared.table.Next.TheVariants.{At, Done, Wrong}
 use Rattle.pg_flow.specs.Answered.{Answered, Choose, OneOf, Parts}
-use Rattle.pg_flow.specs.ClientFlow.{Copying, Plain, all_syncs, copying, hear_plain, is_execute, is_only_execute, is_start, or_copying, say_asked}
-use Rattle.pg_flow.specs.Grammar.{begun, broken, failed}
-use Rattle.pg_flow.specs.Pattern.{Is, Matches, Pattern, Then, none}
-use Rattle.pg_flow.specs.Plain.{State, answers, at_asked, at_place, ended, ends_ready, failed_at, failed_ready, from_sync, given, heard, heard_by, is_asked, is_copy_in, is_sync, resumed, said, said_first, said_to, state, went}
+use Rattle.pg_flow.specs.ClientFlow.{Copying, Plain, all_syncs, copying, hear_plain, is_execute, is_only_execute, is_start, or_copying, say_asked, say_open}
+use Rattle.pg_flow.specs.Grammar.{begun, broken, failed, row_set}
+use Rattle.pg_flow.specs.Pattern.{Is, Many, Matches, Pattern, Then, none}
+use Rattle.pg_flow.specs.Plain.{State, answers, at_open, at_place, ended, ends_ready, failed_at, failed_ready, from_sync, given, heard, heard_by, is_asked, is_copy_in, is_open, is_sync, may_end, resumed, said, said_first, said_to, state, went}
 use Rattle.pg_flow.specs.Sessions.{Ended, Event, Got, IsTaken, Sent, answers_in, as_plain, requests, run, steps}
 use Rattle.pg_flow.specs.Table.{next_of}
 use Rattle.pg_flow.proofs.PatternLemmas.{Leads, both, in_first, past_none}
-use Rattle.pg_flow.proofs.RestLemmas.{cut, data_cut, rest, row_sets}
+use Rattle.pg_flow.proofs.DeriveLemmas.{derived, underive}
+use Rattle.pg_flow.proofs.RestLemmas.{both_cut, copies_cut, cut, done_cut, rest, row_sets}
 use Rattle.pg_flow.proofs.TableLemmas.{Follows, follows}
 
 -- what may still come, where later_on requests are said
@@ -70,25 +71,37 @@ one_step true m p' p c' c P Q ms f g h = in_parts m p' p P ms f h
 one_step false m p' p c' c P Q ms f g h =
     both (in_parts m p' p P ms f) (in_parts m (Then c' (Is Failure)) (Then c (Is Failure)) Q ms (in_first m c' c (Is Failure) g)) h
 
+leads : (m : Answer) (p' p : Pattern) → ((w : List Answer) → Matches p' w → Matches (derived m p) w) → Leads m p' p
+leads m p' p f w h = underive m p w (f w h)
+
+leads_if : (b : Bool) (m : Answer) (c' c : Pattern) → Choose b (Unit {0}) ((w : List Answer) → Matches c' w → Matches (derived m c) w) → Choose b (Unit {0}) (Leads m c' c)
+leads_if true m c' c g = tt
+leads_if false m c' c g = leads m c' c g
+
 -- from the state to go on with to the one before
 abbrev Goes : Option State → List Request → Place → List Request → List Answer → List Answer → Type 0
 Goes o qs place later_on ms before = IfSome o (λ s. After s.queue s.place later_on ms → After qs place later_on before)
 
-asked_step : (r : Request) (place : Place) (m : Answer) (rs later_on : List Request) (ms : List Answer) →
-    Follows r place m (At Asked) → Goes (at_asked r rs) (r ∷ rs) place later_on ms (m ∷ ms)
-asked_step r place m [] later_on ms (f, g) = λ h. one_step (ends_ready r) m (rest Asked r) (rest place r) (cut Asked r) (cut place r) (Answered later_on false) (Answered later_on true) ms f g h
-asked_step r place m (q ∷ qs) later_on ms k = tt
+open_step : (p : Place) (r : Request) (place : Place) (m : Answer) (rs later_on : List Request) (ms : List Answer) → is_open p ≡ true →
+    Follows r place m (At p) → Goes (at_open p r rs) (r ∷ rs) place later_on ms (m ∷ ms)
+open_step p r place m [] later_on ms e (f, g) =
+    λ h. one_step (ends_ready r) m (rest p r) (rest place r) (cut p r) (cut place r) (Answered later_on false) (Answered later_on true) ms (leads m (rest p r) (rest place r) f)
+    (leads_if (ends_ready r) m (cut p r) (cut place r) g) h
+open_step p r place m (q ∷ qs) later_on ms e k = tt
 
 place_step : (p : Place) (r : Request) (place : Place) (m : Answer) (rs later_on : List Request) (ms : List Answer) →
     Follows r place m (At p) → Goes (at_place p r rs) (r ∷ rs) place later_on ms (m ∷ ms)
-place_step Asked r place m rs later_on ms h = asked_step r place m rs later_on ms h
+place_step Asked r place m rs later_on ms h = open_step Asked r place m rs later_on ms refl h
+place_step Both r place m rs later_on ms h = open_step Both r place m rs later_on ms refl h
+place_step BothIn r place m rs later_on ms h = open_step BothIn r place m rs later_on ms refl h
 place_step p r place m rs later_on ms (f, g) =
-    λ h. one_step (ends_ready r) m (rest p r) (rest place r) (cut p r) (cut place r) (Answered (rs ++ later_on) false) (Answered (rs ++ later_on) true) ms f g h
+    λ h. one_step (ends_ready r) m (rest p r) (rest place r) (cut p r) (cut place r) (Answered (rs ++ later_on) false) (Answered (rs ++ later_on) true) ms
+    (leads m (rest p r) (rest place r) f) (leads_if (ends_ready r) m (cut p r) (cut place r) g) h
 
 went_step : (n : Next) (r : Request) (place : Place) (m : Answer) (rs later_on : List Request) (ms : List Answer) →
     Follows r place m n → Goes (went n r rs) (r ∷ rs) place later_on ms (m ∷ ms)
 went_step (At p) r place m rs later_on ms h = place_step p r place m rs later_on ms h
-went_step Done r place m rs later_on ms h = λ k. one_done (ends_ready r) m (rest place r) (cut place r) (Answered (rs ++ later_on) false) (Answered (rs ++ later_on) true) ms h (from_start rs later_on ms k)
+went_step Done r place m rs later_on ms (f, g) = λ k. one_done (ends_ready r) m (rest place r) (cut place r) (Answered (rs ++ later_on) false) (Answered (rs ++ later_on) true) ms (underive m (rest place r) [] (f [] refl)) (from_start rs later_on ms k)
 went_step Wrong r place m rs later_on ms h = tt
 
 -- an error is heard
@@ -104,8 +117,12 @@ query_fails : (place : Place) → Fails place Query
 query_fails Start = λ w h. inr (past_none broken failed (Failure ∷ w) (inl none) (to_failed w h))
 query_fails Over = λ w h. ([], Failure ∷ w, refl, none, inr (past_none broken failed (Failure ∷ w) (inl none) (to_failed w h)))
 query_fails Rows = λ w h. inr (past_none row_sets failed (Failure ∷ w) ([], [], refl, none, none) (to_failed w h))
-query_fails Out = λ w h. inr (past_none data_cut failed (Failure ∷ w) (inl none) (to_failed w h))
-query_fails OutDone = λ w h. inr (to_failed w h)
+query_fails Out = λ w h. inr (past_none copies_cut failed (Failure ∷ w) (inr (inl none)) (to_failed w h))
+query_fails OutDone = λ w h. inr (past_none done_cut failed (Failure ∷ w) (inr none) (to_failed w h))
+query_fails Both = λ w h. inr (past_none both_cut failed (Failure ∷ w) (inl none) (to_failed w h))
+query_fails BothOut = λ w h. inr (past_none both_cut failed (Failure ∷ w) (inl none) (to_failed w h))
+query_fails BothIn = λ w h. inr (past_none (Many row_set) failed (Failure ∷ w) none (to_failed w h))
+query_fails BothDone = λ w h. inr (past_none (Many row_set) failed (Failure ∷ w) none (to_failed w h))
 query_fails Asked = λ w h. inr (to_failed w h)
 query_fails Given = λ w h. inr (to_failed w h)
 query_fails Withheld = λ w h. inr (to_failed w h)
@@ -174,12 +191,16 @@ given_step true [] Asked later_on ms = λ h. h
 given_step true (r ∷ rs) Asked later_on ms = λ h. h
 given_step false [] Asked later_on ms = λ h. h
 given_step false (r ∷ rs) Asked later_on ms = λ h. h
+given_step true [] Both later_on ms = λ h. h
+given_step true (r ∷ rs) Both later_on ms = λ h. h
+given_step true [] BothIn later_on ms = λ h. h
+given_step true (r ∷ rs) BothIn later_on ms = λ h. h
 given_step b qs _ later_on ms = tt
 
 -- what an event makes of a client that has said no Sync early
 
 abbrev pub happens : Event → State → Option State
-happens (Sent r) s = if is_asked s.place then None else Some (said r s)
+happens (Sent r) s = if is_open s.place then None else Some (said r s)
 happens (Ended b) s = ended b s
 happens (Got m) s = heard m s
 
@@ -188,9 +209,13 @@ never_plain true true k place = refl
 never_plain true false k place = refl
 never_plain false d k place = refl
 
+open_plain : (b : Bool) (qs : List Request) (r : Request) → as_plain (if b then say_asked qs r else None) ≡ None
+open_plain true qs r = never_plain (is_sync r) (is_only_execute qs) 0 Asked
+open_plain false qs r = refl
+
 said_plain : (b : Bool) (qs : List Request) (place : Place) (r : Request) →
-    as_plain (if b then say_asked qs r else Some (Plain (said_to qs place r))) ≡ (if b then None else Some (said_to qs place r))
-said_plain true qs place r = never_plain (is_sync r) (is_only_execute qs) 0 Asked
+    as_plain (if b then say_open qs place r else Some (Plain (said_to qs place r))) ≡ (if b then None else Some (said_to qs place r))
+said_plain true qs place r = open_plain (is_asked place) qs r
 said_plain false qs place r = refl
 
 ended_plain : (b : Bool) (s : State) → as_plain (if b then Some (Plain s) else None) ≡ (if b then Some s else None)
@@ -216,8 +241,8 @@ hears_plain m [] place = refl
 hears_plain m (r ∷ rs) place = heard_plain m r place rs (answers m r place rs)
 
 pub steps_plain : (e : Event) (s : State) → as_plain (steps e (Plain s)) ≡ happens e s
-steps_plain (Sent r) s = said_plain (is_asked s.place) s.queue s.place r
-steps_plain (Ended b) s = ended_plain (is_asked s.place) (state s.queue (given b s.place))
+steps_plain (Sent r) s = said_plain (is_open s.place) s.queue s.place r
+steps_plain (Ended b) s = ended_plain (may_end b s.place) (state s.queue (given b s.place))
 steps_plain (Got m) s = hears_plain m s.queue s.place
 
 -- a whole session
@@ -247,7 +272,7 @@ said_goes true r s later_on ms = tt
 said_goes false r s later_on ms = said_step s.queue s.place r later_on ms
 
 happens_goes : (e : Event) (s : State) (later_on : List Request) (ms : List Answer) → Comes (happens e s) s later_on ms (requests (e ∷ []) ++ later_on) (answers_in (e ∷ []) ++ ms)
-happens_goes (Sent r) s later_on ms = said_goes (is_asked s.place) r s later_on ms
+happens_goes (Sent r) s later_on ms = said_goes (is_open s.place) r s later_on ms
 happens_goes (Ended b) s later_on ms = given_step b s.queue s.place later_on ms
 happens_goes (Got m) s later_on ms = heard_step m s.queue s.place later_on ms
 

@@ -2,7 +2,7 @@
 -- the place where it leads.
 use Rattle.std.proofs.Common.{◌≡◌, List, [], ◌++◌, refl, ap, ◌∙◌, append_assoc, Bool, true, false}
 use Rattle.pg_flow.specs.declared.answer.Answer.{Answer}
-use Rattle.pg_flow.specs.declared.answer.Answer.TheVariants.{CommandComplete, CopyIn, CopyOut, Failure, Ready, RowDescription}
+use Rattle.pg_flow.specs.declared.answer.Answer.TheVariants.{CommandComplete, CopyBoth, CopyIn, CopyOut, Failure, Ready, RowDescription}
 use Rattle.pg_flow.specs.declared.place.Place.{Place}
 use Rattle.pg_flow.specs.declared.place.Place.TheVariants.{Failed, Given, Out, OutDone, Over, Parameters, Rows, Start, Value}
 use Rattle.pg_flow.specs.declared.request.Request.{Request}
@@ -10,7 +10,7 @@ use Rattle.pg_flow.specs.declared.request.Request.TheVariants.{Bind, Call, Close
 use Rattle.pg_flow.specs.declared.table.Next.{Next}
 use Rattle.pg_flow.specs.declared.table.Next.TheVariants.{At, Done, Wrong}
 use Rattle.pg_flow.specs.Answered.{Choose}
-use Rattle.pg_flow.specs.Grammar.{broken, failed, statement}
+use Rattle.pg_flow.specs.Grammar.{broken, copy_out, failed, sets_end, statement}
 use Rattle.pg_flow.specs.Pattern.{Either, Is, Many, Matches, Pattern, Then}
 use Rattle.pg_flow.specs.Plain.{ends_ready}
 use Rattle.pg_flow.specs.Table.{next_of}
@@ -62,11 +62,13 @@ Leads_to r place m Wrong =
 abbrev pub Exact : Request → Place → Answer → Type 0
 Exact r place Failure = Unit {0}
 Exact r place CopyIn = Unit {0}
+Exact r place CopyBoth = Unit {0}
 Exact r place m = Leads_to r place m (next_of r place m)
 
 query_start : (m : Answer) → Exact Query Start m
 query_start Failure = tt
 query_start CopyIn = tt
+query_start CopyBoth = tt
 query_start _ = ((λ w h. h), tt, refl)
 
 regroup : (x y z : Pattern) (w : List Answer) → Matches (Then (Then x y) z) w → Matches (Then x (Then y z)) w
@@ -75,113 +77,135 @@ regroup x y z w (a, b, e, (c, d, f, h, k), l) = (c, d ++ b, e ∙ ap (λ (v : Li
 query_over : (m : Answer) → Exact Query Over m
 query_over Failure = tt
 query_over CopyIn = tt
+query_over CopyBoth = tt
 query_over RowDescription = ((λ w h. both (regroup (Then row_sets (Is CommandComplete)) (Many statement) (Either (Is Ready) (Then broken failed)) w) (λ k. k) h), tt, refl)
-query_over CopyOut = ((λ w h. both (regroup (Then data_end (Is CommandComplete)) (Many statement) (Either (Is Ready) (Then broken failed)) w) (λ k. k) h), tt, refl)
+query_over CopyOut = ((λ w h. both (regroup (Then (Then data_end (Many copy_out)) sets_end) (Many statement) (Either (Is Ready) (Then broken failed)) w) (λ k. k) h), tt, refl)
 query_over _ = ((λ w h. h), tt, refl)
 
 query_rows : (m : Answer) → Exact Query Rows m
 query_rows Failure = tt
 query_rows CopyIn = tt
+query_rows CopyBoth = tt
 query_rows _ = ((λ w h. h), tt, refl)
 
 query_out : (m : Answer) → Exact Query Out m
 query_out Failure = tt
 query_out CopyIn = tt
+query_out CopyBoth = tt
 query_out _ = ((λ w h. h), tt, refl)
 
 query_out_done : (m : Answer) → Exact Query OutDone m
 query_out_done Failure = tt
 query_out_done CopyIn = tt
+query_out_done CopyBoth = tt
 query_out_done _ = ((λ w h. h), tt, refl)
 
 query_given : (m : Answer) → Exact Query Given m
 query_given Failure = tt
 query_given CopyIn = tt
+query_given CopyBoth = tt
 query_given _ = ((λ w h. h), tt, refl)
 
 query_failed : (m : Answer) → Exact Query Failed m
 query_failed Failure = tt
 query_failed CopyIn = tt
+query_failed CopyBoth = tt
 query_failed _ = ((λ w h. h), tt, refl)
 
 call_start : (m : Answer) → Exact Call Start m
 call_start Failure = tt
 call_start CopyIn = tt
+call_start CopyBoth = tt
 call_start _ = ((λ w h. h), tt, refl)
 
 call_value : (m : Answer) → Exact Call Value m
 call_value Failure = tt
 call_value CopyIn = tt
+call_value CopyBoth = tt
 call_value _ = ((λ w h. h), tt, refl)
 
 call_failed : (m : Answer) → Exact Call Failed m
 call_failed Failure = tt
 call_failed CopyIn = tt
+call_failed CopyBoth = tt
 call_failed _ = ((λ w h. h), tt, refl)
 
 sync_start : (m : Answer) → Exact Sync Start m
 sync_start Failure = tt
 sync_start CopyIn = tt
+sync_start CopyBoth = tt
 sync_start _ = ((λ w h. h), tt, refl)
 
 sync_failed : (m : Answer) → Exact Sync Failed m
 sync_failed Failure = tt
 sync_failed CopyIn = tt
+sync_failed CopyBoth = tt
 sync_failed _ = ((λ w h. h), tt, refl)
 
 parse_start : (m : Answer) → Exact Parse Start m
 parse_start Failure = tt
 parse_start CopyIn = tt
+parse_start CopyBoth = tt
 parse_start _ = ((λ w h. h), (λ w h. h), refl)
 
 bind_start : (m : Answer) → Exact Bind Start m
 bind_start Failure = tt
 bind_start CopyIn = tt
+bind_start CopyBoth = tt
 bind_start _ = ((λ w h. h), (λ w h. h), refl)
 
 close_start : (m : Answer) → Exact Close Start m
 close_start Failure = tt
 close_start CopyIn = tt
+close_start CopyBoth = tt
 close_start _ = ((λ w h. h), (λ w h. h), refl)
 
 portal_start : (m : Answer) → Exact DescribePortal Start m
 portal_start Failure = tt
 portal_start CopyIn = tt
+portal_start CopyBoth = tt
 portal_start _ = ((λ w h. h), (λ w h. h), refl)
 
 statement_start : (m : Answer) → Exact DescribeStatement Start m
 statement_start Failure = tt
 statement_start CopyIn = tt
+statement_start CopyBoth = tt
 statement_start _ = ((λ w h. h), (λ w h. h), refl)
 
 statement_parameters : (m : Answer) → Exact DescribeStatement Parameters m
 statement_parameters Failure = tt
 statement_parameters CopyIn = tt
+statement_parameters CopyBoth = tt
 statement_parameters _ = ((λ w h. h), (λ w h. h), refl)
 
 execute_start : (m : Answer) → Exact Execute Start m
 execute_start Failure = tt
 execute_start CopyIn = tt
+execute_start CopyBoth = tt
 execute_start _ = ((λ w h. h), (λ w h. h), refl)
 
 execute_rows : (m : Answer) → Exact Execute Rows m
 execute_rows Failure = tt
 execute_rows CopyIn = tt
+execute_rows CopyBoth = tt
 execute_rows _ = ((λ w h. h), (λ w h. h), refl)
 
 execute_out : (m : Answer) → Exact Execute Out m
 execute_out Failure = tt
 execute_out CopyIn = tt
+execute_out CopyBoth = tt
 execute_out _ = ((λ w h. h), (λ w h. h), refl)
 
 execute_out_done : (m : Answer) → Exact Execute OutDone m
 execute_out_done Failure = tt
 execute_out_done CopyIn = tt
+execute_out_done CopyBoth = tt
 execute_out_done _ = ((λ w h. h), (λ w h. h), refl)
 
 execute_given : (m : Answer) → Exact Execute Given m
 execute_given Failure = tt
 execute_given CopyIn = tt
+execute_given CopyBoth = tt
 execute_given _ = ((λ w h. h), (λ w h. h), refl)
 
 impossible : {A : Type 0} → false ≡ true → A

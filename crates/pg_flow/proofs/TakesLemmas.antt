@@ -2,11 +2,11 @@
 use Rattle.std.proofs.Common.{◌≡◌, ◌≤◌, ℕ, zero, suc, ◌+◌, List, [], ◌∷◌, inl, inr, refl, sym, ap, ◌∙◌, arith, Bool, true, false, Option}
 use Rattle.std.specs.Prelude.{IfSome}
 use Rattle.pg_flow.specs.declared.place.Place.{Place}
-use Rattle.pg_flow.specs.declared.place.Place.TheVariants.{Asked, Skipping, Start}
+use Rattle.pg_flow.specs.declared.place.Place.TheVariants.{Asked, Both, BothDone, BothIn, BothOut, Skipping, Start}
 use Rattle.pg_flow.specs.declared.request.Request.{Request}
 use Rattle.pg_flow.specs.declared.request.Request.TheVariants.{Execute, Sync}
 use Rattle.pg_flow.specs.ClientFlow.{Client, Copying, Group, Plain}
-use Rattle.pg_flow.specs.Plain.{State, given, is_asked, is_sync, state}
+use Rattle.pg_flow.specs.Plain.{State, given, is_open, is_sync, state}
 use Rattle.pg_flow.specs.ServerFlow.{Asks, Busy, Ends, Idle, Server, Skips, Up, counted, drops, take, take_end}
 use Rattle.pg_flow.proofs.PlainLemmas.{Alone, Tidy, asks, has_end, impossible, placed, pushes_up, up_behind}
 use Rattle.pg_flow.proofs.RestLemmas.{rest}
@@ -53,7 +53,7 @@ asked_alone : {A : Type 0} (x r : Request) (c : State) (p : List Up) → c ≡ p
 asked_alone x r c p e t a =
     let q : placed p Asked ≡ Asked = placed_clean p Asked (no_end_after (state (x ∷ []) Asked) r p t) in
     let f : c ≡ state (x ∷ (r ∷ asks p)) (placed p Asked) = e ∙ up_behind (Asks r ∷ p) x [] Asked in
-    no_cons (Asks r) p (a (ap (λ (s : State). is_asked s.place) f ∙ ap is_asked q))
+    no_cons (Asks r) p (a (ap (λ (s : State). is_open s.place) f ∙ ap is_open q))
 
 busy_asks : (x : Request) (place : Place) (c : State) (p : List Up) (quiet : Bool) (i n count : ℕ) → Plain_covers c (Asks Sync ∷ p) (Busy x place quiet i) count →
     Covers_then (Plain c) p n (count + 1) (drops x place quiet i)
@@ -64,6 +64,10 @@ busy_ends : (b : Bool) (x : Request) (place : Place) (c : State) (p : List Up) (
     Covers_then (Plain c) p n count (take_end b x place quiet i)
 busy_ends b x Asked c p quiet i n count h =
     record { like = h.like; tidy = ends_less (state (x ∷ []) Asked) (state (x ∷ []) (given b Asked)) b p h.tidy; alone = alone_less c (Ends b) p h.alone; numbered = h.numbered }
+busy_ends true x Both c p quiet i n count h =
+    record { like = h.like; tidy = ends_less (state (x ∷ []) Both) (state (x ∷ []) BothOut) true p h.tidy; alone = alone_less c (Ends true) p h.alone; numbered = h.numbered }
+busy_ends true x BothIn c p quiet i n count h =
+    record { like = h.like; tidy = ends_less (state (x ∷ []) BothIn) (state (x ∷ []) BothDone) true p h.tidy; alone = alone_less c (Ends true) p h.alone; numbered = h.numbered }
 busy_ends b x _ c p quiet i n count h = tt
 
 busy_takes : (u : Up) (x : Request) (place : Place) (c : State) (p : List Up) (quiet : Bool) (i n count : ℕ) → Plain_covers c (u ∷ p) (Busy x place quiet i) count →
@@ -92,6 +96,8 @@ copy_takes_at (Asks Sync) _ k rest place p quiet i n count h = tt
 copy_takes_at (Asks r) q k rest place p quiet i n count h = tt
 copy_takes_at (Ends true) Asked k rest place p quiet i n count h = record { reads = h.reads; numbered = h.numbered; before = h.before; syncs = h.syncs }
 copy_takes_at (Ends false) Asked k rest place p quiet i n count h = record { reads = h.reads; numbered = h.numbered; before = h.before; syncs = h.syncs }
+copy_takes_at (Ends true) Both k rest place p quiet i n count h = absurd h.reads
+copy_takes_at (Ends true) BothIn k rest place p quiet i n count h = absurd h.reads
 copy_takes_at (Ends b) _ k rest place p quiet i n count h = tt
 
 copy_takes : (u : Up) (k : ℕ) (rest : List Request) (place : Place) (p : List Up) (s : Server) (n count : ℕ) →
@@ -121,18 +127,22 @@ group_skips (Asks Sync) first l m rest skips p n count h g = (record { low = h.l
 group_skips (Asks r) first l m rest skips p n count h g = let a : 1 ≤ 0 = g (not_empty skips rest r (asks p) h.same h.quiet) in absurd (omega arith)
 group_skips (Ends b) first l m rest skips p n count h g = (record { low = h.low; high = h.high; same = h.same; neat = neat_clean p h.neat; from = h.from; quiet = h.quiet }, g)
 
-no_group : (b : Bool) (quiet : Bool) (first l m : ℕ) (rest : List Request) (skips : Bool) (x : Request) (p : List Up) (i count : ℕ) →
-    Group_busy b Asked quiet first l m rest skips x p i count → ⊥
-no_group true true first l m rest skips x p i count h = h
-no_group true false first l m rest skips x p i count h = h
-no_group false quiet first l m rest skips x p i count h = h
+no_group : (b : Bool) (place : Place) (quiet : Bool) (first l m : ℕ) (rest : List Request) (skips : Bool) (x : Request) (p : List Up) (i count : ℕ) → is_open place ≡ true →
+    Group_busy b place quiet first l m rest skips x p i count → ⊥
+no_group true Start quiet first l m rest skips x p i count e h = impossible e
+no_group true _ true first l m rest skips x p i count e h = h
+no_group true _ false first l m rest skips x p i count e h = h
+no_group false Start quiet first l m rest skips x p i count e h = impossible e
+no_group false _ quiet first l m rest skips x p i count e h = h
 
 group_busy : (u : Up) (x : Request) (place : Place) (quiet : Bool) (first l m : ℕ) (rest : List Request) (skips : Bool) (p : List Up) (i n count : ℕ) →
     Group_busy (is_sync x) place quiet first l m rest skips x (u ∷ p) i count → Covers_then (Group first l m rest skips) p n (counted u count) (take u (Busy x place quiet i) count)
-group_busy (Asks Sync) x Asked quiet first l m rest skips p i n count h = absurd (no_group (is_sync x) quiet first l m rest skips x (Asks Sync ∷ p) i count h)
+group_busy (Asks Sync) x Asked quiet first l m rest skips p i n count h = absurd (no_group (is_sync x) Asked quiet first l m rest skips x (Asks Sync ∷ p) i count refl h)
 group_busy (Asks Sync) x _ quiet first l m rest skips p i n count h = tt
 group_busy (Asks r) x place quiet first l m rest skips p i n count h = tt
-group_busy (Ends b) x Asked quiet first l m rest skips p i n count h = absurd (no_group (is_sync x) quiet first l m rest skips x (Ends b ∷ p) i count h)
+group_busy (Ends b) x Asked quiet first l m rest skips p i n count h = absurd (no_group (is_sync x) Asked quiet first l m rest skips x (Ends b ∷ p) i count refl h)
+group_busy (Ends true) x Both quiet first l m rest skips p i n count h = absurd (no_group (is_sync x) Both quiet first l m rest skips x (Ends true ∷ p) i count refl h)
+group_busy (Ends true) x BothIn quiet first l m rest skips p i n count h = absurd (no_group (is_sync x) BothIn quiet first l m rest skips x (Ends true ∷ p) i count refl h)
 group_busy (Ends b) x _ quiet first l m rest skips p i n count h = tt
 
 group_takes : (u : Up) (first l m : ℕ) (rest : List Request) (skips : Bool) (p : List Up) (s : Server) (n count : ℕ) →

@@ -7,7 +7,7 @@ use Rattle.pg_flow.specs.declared.answer.Answer.{Answer}
 use Rattle.pg_flow.specs.declared.place.Place.TheVariants.{Start}
 use Rattle.pg_flow.specs.declared.request.Request.{Request}
 use Rattle.pg_flow.specs.ClientFlow.{Client, end_data, hear, highest, lowest, number, say}
-use Rattle.pg_flow.specs.Plain.{is_copy_in, state}
+use Rattle.pg_flow.specs.Plain.{opens_data, state}
 use Rattle.pg_flow.specs.ServerFlow.{Asks, Ends, Idle, Server, Up, counted, number_of, take, tell}
 use Rattle.pg_flow.specs.World.{Answers, Behind_copy, Choice, Disagreed, Ends_data, Fine, Hears, Outcome, Says, Takes, Told, Told_as, World, at_first, ends_next, ends_with, hears_it, hears_next, picked, says_next, schedule, takes_it, takes_next, tells_next, while_agreed, world}
 use Rattle.pg_flow.proofs.PlainLemmas.{asks, asks_ends, asks_last}
@@ -43,7 +43,7 @@ record Follows_it (client : Client) (n : ℕ) (server : Server) (k : ℕ) (up : 
   number : n ≡ count + length (asks (taken ++ up))
 
 abbrev Next_ok : Client → ℕ → Server → ℕ → List Up → List Told → Answer → ℕ → Option Client → Type 0
-Next_ok client n server k up ms m j None = is_copy_in m ≡ true
+Next_ok client n server k up ms m j None = opens_data m ≡ true
 Next_ok client n server k up ms m j (Some c) = (lowest n m client ≤ j) × (j ≤ highest n m client) × Follows_it c n server k up ms
 
 abbrev Hears_next : Client → ℕ → Server → ℕ → List Up → List Told → Type 0

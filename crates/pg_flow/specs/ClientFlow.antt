@@ -9,13 +9,13 @@ use Rattle.pg_flow.specs.declared.answer.Answer.TheVariants.{Failure, Ready}
 use Rattle.pg_flow.specs.declared.heard.Heard.{Heard}
 use Rattle.pg_flow.specs.declared.mode.Mode.{Mode}
 use Rattle.pg_flow.specs.declared.place.Place.{Place}
-use Rattle.pg_flow.specs.declared.place.Place.TheVariants.{Asked, Failed, Given, Skipping, Start, Withheld}
+use Rattle.pg_flow.specs.declared.place.Place.TheVariants.{Asked, BothDone, BothOut, Failed, Given, Skipping, Start, Withheld}
 use Rattle.pg_flow.specs.declared.request.Request.{Request}
 use Rattle.pg_flow.specs.declared.request.Request.TheVariants.{Execute}
 use Rattle.pg_flow.specs.declared.table.Next.{Next}
 use Rattle.pg_flow.specs.declared.table.Next.TheVariants.{Done}
 use Rattle.pg_flow.specs.Mode.{mode_in}
-use Rattle.pg_flow.specs.Plain.{State, answers, given, is_asked, is_copy_in, is_last, is_sync, said_to, state}
+use Rattle.pg_flow.specs.Plain.{State, answers, given, is_asked, is_copy_in, is_last, is_open, is_sync, may_end, said_to, state}
 use Rattle.pg_flow.specs.Table.{next_of}
 
 pub data Client : Type 0 where
@@ -40,8 +40,12 @@ is_only_execute _ = false
 abbrev pub say_asked : List Request → Request → Option Client
 say_asked qs r = if is_sync r then (if is_only_execute qs then Some (Copying 0 [] Asked) else None) else None
 
+-- while data go both ways, none
+abbrev pub say_open : List Request → Place → Request → Option Client
+say_open qs place r = if is_asked place then say_asked qs r else None
+
 abbrev pub say_plain : List Request → Place → Request → Option Client
-say_plain qs place r = if is_asked place then say_asked qs r else Some (Plain (said_to qs place r))
+say_plain qs place r = if is_open place then say_open qs place r else Some (Plain (said_to qs place r))
 
 -- once the data are over: a Sync first
 abbrev pub say_behind : ℕ → List Request → Place → Request → Option Client
@@ -63,7 +67,7 @@ say r (Group first l m rest skips) = say_group first l m rest skips r
 
 -- after the data of a COPY are over: none where none are asked for
 abbrev pub end_data : Bool → Client → Option Client
-end_data b (Plain s) = if is_asked s.place then Some (Plain (state s.queue (given b s.place))) else None
+end_data b (Plain s) = if may_end b s.place then Some (Plain (state s.queue (given b s.place))) else None
 end_data b (Copying k rest place) = if is_asked place then Some (Copying k rest (given b place)) else None
 end_data b (Group first l m rest skips) = None
 
@@ -185,7 +189,7 @@ first_of n (Group first l k rest skips) = first
 -- what a client says of the data of a COPY
 
 abbrev pub takes_data : Client → Bool
-takes_data (Plain s) = is_asked s.place
+takes_data (Plain s) = is_open s.place
 takes_data (Copying k rest place) = is_asked place
 takes_data (Group first l k rest skips) = false
 
@@ -206,6 +210,8 @@ end_or_drop b c = if takes_data c then end_data b c else (if drops_data c then S
 abbrev pub is_over : Place → Bool
 is_over Given = true
 is_over Withheld = true
+is_over BothOut = true
+is_over BothDone = true
 is_over _ = false
 
 abbrev pub gives_alone : List Request → Place → Bool

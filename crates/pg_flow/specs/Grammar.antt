@@ -1,5 +1,5 @@
 -- The answers to each request, as the documentation's "Message Flow" has them: patterns, apart from the flow.
-use Rattle.pg_flow.specs.declared.answer.Answer.TheVariants.{BindComplete, CloseComplete, CommandComplete, CopyData, CopyDone, CopyIn, CopyOut, DataRow, EmptyQuery, Failure, FunctionResult, NoData, ParameterDescription, ParseComplete, PortalSuspended, Ready, RowDescription}
+use Rattle.pg_flow.specs.declared.answer.Answer.TheVariants.{BindComplete, CloseComplete, CommandComplete, CopyBoth, CopyData, CopyDone, CopyIn, CopyOut, DataRow, EmptyQuery, Failure, FunctionResult, NoData, ParameterDescription, ParseComplete, PortalSuspended, Ready, RowDescription}
 use Rattle.pg_flow.specs.declared.request.Request.{Request}
 use Rattle.pg_flow.specs.declared.request.Request.TheVariants.{Bind, Call, Close, DescribePortal, DescribeStatement, Execute, Parse, Query, Sync}
 use Rattle.pg_flow.specs.Pattern.{Either, Is, Many, Nothing, Pattern, Then}
@@ -15,13 +15,28 @@ row_set = Then (Is RowDescription) rows
 abbrev pub copy_out : Pattern
 copy_out = Then (Is CopyOut) (Then (Many (Is CopyData)) (Is CopyDone))
 
--- "Simple Query": a statement of a Query that went well
+-- what the server gives of a COPY in both directions
+abbrev pub copy_both : Pattern
+copy_both = Then (Is CopyBoth) (Then (Many (Is CopyData)) (Is CopyDone))
+
+abbrev pub sets_end : Pattern
+sets_end = Then (Many row_set) (Is CommandComplete)
+
+-- "Simple Query": a statement of a Query that went well. "Streaming Replication Protocol": a base backup may copy more than once, and
+-- rows may come behind the data.
 abbrev pub statement : Pattern
-statement = Either (Then (Many row_set) (Is CommandComplete)) (Either (Is EmptyQuery) (Either (Then copy_out (Is CommandComplete)) (Then (Is CopyIn) (Is CommandComplete))))
+statement =
+    Either sets_end (Either (Is EmptyQuery) (Either (Then (Then copy_out (Many copy_out)) sets_end) (Either (Then (Is CopyIn) (Is CommandComplete)) (Then copy_both sets_end))))
 
 -- what came of a statement before it failed
+abbrev pub broken_copy : Pattern
+broken_copy = Either (Then (Is CopyOut) (Many (Is CopyData))) (Then copy_out (Many row_set))
+
+abbrev pub broken_both : Pattern
+broken_both = Either (Then (Is CopyBoth) (Many (Is CopyData))) (Then copy_both (Many row_set))
+
 abbrev pub broken : Pattern
-broken = Either (Many row_set) (Either (Then (Is CopyOut) (Many (Is CopyData))) (Either copy_out (Is CopyIn)))
+broken = Either (Many row_set) (Either (Then (Many copy_out) broken_copy) (Either (Is CopyIn) broken_both))
 
 abbrev pub failed : Pattern
 failed = Then (Is Failure) (Is Ready)

@@ -2,9 +2,9 @@
 -- first has come. Documentation: "Message Flow", "Simple Query", "Extended Query", "Pipelining", "Function Call", "COPY Operations".
 use Rattle.std.specs.Prelude.{Bool, true, false, List, [], ◌∷◌, ◌++◌, Option, Some, None, if◌then◌else◌}
 use Rattle.pg_flow.specs.declared.answer.Answer.{Answer}
-use Rattle.pg_flow.specs.declared.answer.Answer.TheVariants.{CopyIn, Failure}
+use Rattle.pg_flow.specs.declared.answer.Answer.TheVariants.{CopyBoth, CopyIn, Failure}
 use Rattle.pg_flow.specs.declared.place.Place.{Place}
-use Rattle.pg_flow.specs.declared.place.Place.TheVariants.{Asked, Failed, Given, Skipping, Start, Withheld}
+use Rattle.pg_flow.specs.declared.place.Place.TheVariants.{Asked, Both, BothDone, BothIn, BothOut, Failed, Given, Skipping, Start, Withheld}
 use Rattle.pg_flow.specs.declared.request.Request.{Request}
 use Rattle.pg_flow.specs.declared.request.Request.TheVariants.{Call, Query, Sync}
 use Rattle.pg_flow.specs.declared.table.Next.{Next}
@@ -58,14 +58,20 @@ failed_ready place r rs = Some (state (r ∷ rs) Failed)
 abbrev pub failed_at : Request → Place → List Request → Option State
 failed_at r place rs = if ends_ready r then failed_ready place r rs else Some (resumed (from_sync rs))
 
--- where data of a COPY are asked for, nothing else may have been said behind it
-abbrev pub at_asked : Request → List Request → Option State
-at_asked r [] = Some (state (r ∷ []) Asked)
-at_asked r (q ∷ qs) = None
+-- where data of a COPY are to be said, in one direction or in both
+abbrev pub is_open : Place → Bool
+is_open Asked = true
+is_open Both = true
+is_open BothIn = true
+is_open _ = false
+
+-- where data of a COPY are to be said, nothing else may have been said behind it
+abbrev pub at_open : Place → Request → List Request → Option State
+at_open place r [] = Some (state (r ∷ []) place)
+at_open place r (q ∷ qs) = None
 
 abbrev pub at_place : Place → Request → List Request → Option State
-at_place Asked r rs = at_asked r rs
-at_place place r rs = Some (state (r ∷ rs) place)
+at_place place r rs = if is_open place then at_open place r rs else Some (state (r ∷ rs) place)
 
 abbrev pub went : Next → Request → List Request → Option State
 went (At place) r rs = at_place place r rs
@@ -93,14 +99,32 @@ abbrev pub is_copy_in : Answer → Bool
 is_copy_in CopyIn = true
 is_copy_in _ = false
 
--- where the end of the data leads, which are whole or withheld
+-- an answer that asks for data of a COPY
+abbrev pub opens_data : Answer → Bool
+opens_data CopyIn = true
+opens_data CopyBoth = true
+opens_data _ = false
+
+-- where the end of the data may be said, which are whole or withheld: those of a COPY in both directions can't be withheld
+abbrev pub may_end : Bool → Place → Bool
+may_end is_whole Asked = true
+may_end is_whole Both = is_whole
+may_end is_whole BothIn = is_whole
+may_end is_whole _ = false
+
+-- where the end of the data leads
 abbrev pub given : Bool → Place → Place
 given is_whole Asked = if is_whole then Given else Withheld
+given is_whole Both = if is_whole then BothOut else Both
+given is_whole BothIn = if is_whole then BothDone else BothIn
 given is_whole place = place
 
--- after the end of the data: none where none are asked for
+abbrev pub end_at : Bool → Place → Option Place
+end_at is_whole place = if may_end is_whole place then Some (given is_whole place) else None
+
+-- after the end of the data: none where it can't be said
 abbrev pub ended : Bool → State → Option State
-ended is_whole s = if is_asked s.place then Some (state s.queue (given is_whole s.place)) else None
+ended is_whole s = if may_end is_whole s.place then Some (state s.queue (given is_whole s.place)) else None
 
 -- whether the answer to a request is over, where an answer leads there
 abbrev pub is_done : Next → Bool

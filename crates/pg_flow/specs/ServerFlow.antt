@@ -12,7 +12,7 @@ use Rattle.pg_flow.specs.declared.place.Place.{Place}
 use Rattle.pg_flow.specs.declared.place.Place.TheVariants.{Asked, Skipping, Start}
 use Rattle.pg_flow.specs.declared.request.Request.{Request}
 use Rattle.pg_flow.specs.Mode.{mode_in}
-use Rattle.pg_flow.specs.Plain.{State, answers, ends_ready, given, is_asked, is_last, is_sync}
+use Rattle.pg_flow.specs.Plain.{State, answers, ends_ready, given, is_last, is_open, is_sync, may_end}
 
 -- what a client says: a request, or the end of the data of a COPY, which are whole or withheld
 pub data Up : Type 0 where
@@ -31,8 +31,7 @@ drops x Asked quiet i = Some (Busy x Asked quiet i)
 drops x _ quiet i = None
 
 abbrev pub take_end : Bool → Request → Place → Bool → ℕ → Option Server
-take_end b x Asked quiet i = Some (Busy x (given b Asked) quiet i)
-take_end b x _ quiet i = None
+take_end b x place quiet i = if may_end b place then Some (Busy x (given b place) quiet i) else None
 
 abbrev pub take : Up → Server → ℕ → Option Server
 take (Asks r) (Idle quiet) j = Some (Busy r Start quiet j)
@@ -83,7 +82,7 @@ whose_told m _ = whom.ByItself
 
 -- whether data of a COPY, or a Flush, are taken now
 abbrev pub reads : Server → Bool
-reads (Busy r place quiet j) = is_asked place
+reads (Busy r place quiet j) = is_open place
 reads _ = true
 
 -- the request that is answered, or where none is the next one

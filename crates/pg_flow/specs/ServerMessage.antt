@@ -1,6 +1,6 @@
 -- What a message of a server is to the flow, by its tag and the first bytes of its body. Documentation: "Message Formats".
 use Rattle.std.specs.Prelude.{ℕ, ◌==◌, List, Option, Some, None, if◌then◌else◌, option_map}
-use Rattle.pg_flow.specs.declared.answer.Answer.TheVariants.{BindComplete, CloseComplete, CommandComplete, CopyData, CopyDone, CopyIn, CopyOut, DataRow, EmptyQuery, Failure, FunctionResult, NoData, ParameterDescription, ParseComplete, PortalSuspended, RowDescription}
+use Rattle.pg_flow.specs.declared.answer.Answer.TheVariants.{BindComplete, CloseComplete, CommandComplete, CopyBoth, CopyData, CopyDone, CopyIn, CopyOut, DataRow, EmptyQuery, Failure, FunctionResult, NoData, ParameterDescription, ParseComplete, PortalSuspended, RowDescription}
 use Rattle.pg_flow.specs.declared.server_message.ServerMessage.{ServerMessage}
 use Rattle.pg_flow.specs.declared.server_message.ServerMessage.TheVariants.{Answering, Aside, Readiness}
 use Rattle.pg_flow.specs.TransactionStatus.{status_of}
@@ -19,6 +19,7 @@ server_message tag first =
     else if tag == 115 then Some (Answering PortalSuspended)
     else if tag == 71 then Some (Answering CopyIn)
     else if tag == 72 then Some (Answering CopyOut)
+    else if tag == 87 then Some (Answering CopyBoth)
     else if tag == 100 then Some (Answering CopyData)
     else if tag == 99 then Some (Answering CopyDone)
     else if tag == 86 then Some (Answering FunctionResult)

@@ -1,7 +1,7 @@
 -- Whole sessions from the first ReadyForQuery on, as a client sees them.
 use Rattle.std.specs.Prelude.{◌≡◌, List, [], ◌∷◌, Option, Some, None, Bool}
 use Rattle.pg_flow.specs.declared.answer.Answer.{Answer}
-use Rattle.pg_flow.specs.declared.answer.Answer.TheVariants.{CopyIn}
+use Rattle.pg_flow.specs.declared.answer.Answer.TheVariants.{CopyBoth, CopyIn}
 use Rattle.pg_flow.specs.declared.place.Place.{Place}
 use Rattle.pg_flow.specs.declared.place.Place.TheVariants.{Start}
 use Rattle.pg_flow.specs.declared.request.Request.{Request}
@@ -65,4 +65,5 @@ all_heard (m ∷ ms) = Got m ∷ all_heard ms
 abbrev pub AsksForNone : List Answer → Type 0
 AsksForNone [] = Unit {0}
 AsksForNone (CopyIn ∷ ms) = ⊥
+AsksForNone (CopyBoth ∷ ms) = ⊥
 AsksForNone (_ ∷ ms) = AsksForNone ms

@@ -1,9 +1,9 @@
 -- Where each answer leads, by the request and the place that its answer has come to. Documentation: "Message Flow", "Simple Query",
 -- "Extended Query", "Function Call", "COPY Operations".
 use Rattle.pg_flow.specs.declared.answer.Answer.{Answer}
-use Rattle.pg_flow.specs.declared.answer.Answer.TheVariants.{BindComplete, CloseComplete, CommandComplete, CopyData, CopyDone, CopyIn, CopyOut, DataRow, EmptyQuery, FunctionResult, NoData, ParameterDescription, ParseComplete, PortalSuspended, Ready, RowDescription}
+use Rattle.pg_flow.specs.declared.answer.Answer.TheVariants.{BindComplete, CloseComplete, CommandComplete, CopyBoth, CopyData, CopyDone, CopyIn, CopyOut, DataRow, EmptyQuery, FunctionResult, NoData, ParameterDescription, ParseComplete, PortalSuspended, Ready, RowDescription}
 use Rattle.pg_flow.specs.declared.place.Place.{Place}
-use Rattle.pg_flow.specs.declared.place.Place.TheVariants.{Asked, Failed, Given, Out, OutDone, Over, Parameters, Rows, Start, Value}
+use Rattle.pg_flow.specs.declared.place.Place.TheVariants.{Asked, Both, BothDone, BothIn, BothOut, Failed, Given, Out, OutDone, Over, Parameters, Rows, Start, Value}
 use Rattle.pg_flow.specs.declared.request.Request.{Request}
 use Rattle.pg_flow.specs.declared.request.Request.TheVariants.{Bind, Call, Close, DescribePortal, DescribeStatement, Execute, Parse, Query, Sync}
 use Rattle.pg_flow.specs.declared.table.Next.{Next}
@@ -16,6 +16,7 @@ at_statement CommandComplete = At Over
 at_statement EmptyQuery = At Over
 at_statement CopyOut = At Out
 at_statement CopyIn = At Asked
+at_statement CopyBoth = At Both
 at_statement _ = Wrong
 
 abbrev pub at_next_statement : Answer → Next
@@ -34,6 +35,22 @@ at_data CopyData = At Out
 at_data CopyDone = At OutDone
 at_data _ = Wrong
 
+-- behind the data of a COPY in a Query: those of another, or rows, may come before the CommandComplete
+abbrev pub at_last_rows : Answer → Next
+at_last_rows RowDescription = At Rows
+at_last_rows CommandComplete = At Over
+at_last_rows _ = Wrong
+
+abbrev pub at_next_copy : Answer → Next
+at_next_copy CopyOut = At Out
+at_next_copy m = at_last_rows m
+
+-- the server's data of a COPY in both directions: where more of them lead, and where their end does
+abbrev pub at_data_both : Place → Place → Answer → Next
+at_data_both more end CopyData = At more
+at_data_both more end CopyDone = At end
+at_data_both more end _ = Wrong
+
 -- only CommandComplete is left, which leads to `then`
 abbrev pub at_complete : Next → Answer → Next
 at_complete next CommandComplete = next
@@ -48,8 +65,11 @@ in_query Start m = at_statement m
 in_query Over m = at_next_statement m
 in_query Rows m = at_row_sets m
 in_query Out m = at_data m
-in_query OutDone m = at_complete (At Over) m
+in_query OutDone m = at_next_copy m
 in_query Given m = at_complete (At Over) m
+in_query Both m = at_data_both Both BothIn m
+in_query BothOut m = at_data_both BothOut BothDone m
+in_query BothDone m = at_last_rows m
 in_query Failed m = at_ready m
 in_query _ _ = Wrong
 

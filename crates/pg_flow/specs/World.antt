@@ -4,7 +4,7 @@ use Rattle.pg_flow.specs.declared.answer.Answer.{Answer}
 use Rattle.pg_flow.specs.declared.place.Place.TheVariants.{Start}
 use Rattle.pg_flow.specs.declared.request.Request.{Request}
 use Rattle.pg_flow.specs.ClientFlow.{Client, Plain, end_data, hear, highest, lowest, say}
-use Rattle.pg_flow.specs.Plain.{is_copy_in, state}
+use Rattle.pg_flow.specs.Plain.{opens_data, state}
 use Rattle.pg_flow.specs.ServerFlow.{Asks, Ends, Idle, Server, Up, counted, number_of, take, tell}
 
 -- an answer, and the number of the request that the server gave it to
@@ -60,7 +60,7 @@ tells_next w m None = w
 tells_next w m (Some s) = world w.client w.said_count s w.taken_count w.up (w.down ++ Told_as m (number_of w.server) ∷ [])
 
 abbrev pub hears_it : World → List Told → Answer → ℕ → Option Client → World
-hears_it w down m j None = ends_with w (if is_copy_in m then Behind_copy else Disagreed)
+hears_it w down m j None = ends_with w (if opens_data m then Behind_copy else Disagreed)
 hears_it w down m j (Some c) =
     if nat_le (lowest w.said_count m w.client) j
     then (if nat_le j (highest w.said_count m w.client) then world c w.said_count w.server w.taken_count w.up down else ends_with w Disagreed)

@@ -18,6 +18,8 @@ pub enum Answer {
     CopyIn,
     /// A CopyOutResponse.
     CopyOut,
+    /// A CopyBothResponse.
+    CopyBoth,
     CopyData,
     CopyDone,
     /// A FunctionCallResponse.

@@ -1,7 +1,7 @@
 //! A client's side: what it said that isn't answered, and how far the first answer has come.
 
 ghost use Rattle.std.specs.Prelude.{◌≡◌, ◌≢◌, ◌+◌, ◌-◌, true, false, List, [], Option, Some, None, OnOk, OnErr, IfOk, IfErr, length};
-ghost use Rattle.pg_flow.specs.Plain.{state, resumed, from_sync};
+ghost use Rattle.pg_flow.specs.Plain.{state, resumed, from_sync, is_open, at_place};
 ghost use Rattle.pg_flow.specs.ClientFlow.{Plain, Client, say, say_plain, say_copying, say_group, end_or_drop, drops_data, hear, hear_plain, hear_copying, hear_group, ready_group, all_syncs, behind, ends_first, ends_rest, whose, first_of, client_mode, takes_data, gives};
 
 use crate::answer::Answer;
@@ -9,7 +9,7 @@ use crate::early_syncs::EarlySyncs;
 use crate::fault::Fault;
 use crate::heard::Heard;
 use crate::mode::{Mode, mode_at};
-use crate::place::Place;
+use crate::place::{Place, end_at, has_ended, is_open};
 use crate::request::Request;
 use crate::table::{Next, ends_ready, step};
 use std::alloc::Global;
@@ -79,8 +79,8 @@ impl ClientFlow {
         ensures same { OnErr result (client_of self.new ≡ client_of self.old) }
         ensures said { self.new.said ≡ self.old.said }
     {
-        if self.place == Place::Asked {
-            return self.say_asked(request);
+        if is_open(self.place) {
+            return self.say_open(request);
         }
         if self.first.is_none() {
             if self.place != Place::Skipping || request == Request::Sync {
@@ -95,16 +95,18 @@ impl ClientFlow {
         Ok(())
     }
 
-    fn say_asked(&mut self, request: Request) -> Result<(), Fault>
+    // While the client gives data of a COPY.
+    fn say_open(&mut self, request: Request) -> Result<(), Fault>
         requires early { self.old.early ≡ EarlySyncs.Usual }
-        requires asked { self.old.place ≡ Place.Asked }
+        requires open { is_open self.old.place ≡ true }
         ensures ok { OnOk result (say_plain (queue_in self.old) self.old.place request
             ≡ Some (client_of self.new)) }
         ensures err { OnErr result (say_plain (queue_in self.old) self.old.place request ≡ None) }
         ensures same { OnErr result (client_of self.new ≡ client_of self.old) }
         ensures said { self.new.said ≡ self.old.said }
     {
-        if request == Request::Sync
+        if self.place == Place::Asked
+            && request == Request::Sync
             && self.first == Some(Request::Execute)
             && self.rest.is_empty()
         {
@@ -185,6 +187,7 @@ impl ClientFlow {
 
     /// Takes the end of the data of a COPY, which are whole or withheld. Where nothing that waits may take data, as after an
     /// error that crossed them, nothing comes of it.
+    #[tactic(auto, using(crate::proofs::ClientFlowLemmas::asked_ends))]
     pub fn end_data(&mut self, is_whole: bool) -> Result<(), Fault>
         ensures ok { OnOk result (end_or_drop is_whole (client_of self.old)
             ≡ Some (client_of self.new)) }
@@ -198,11 +201,10 @@ impl ClientFlow {
             }
             return Err(Fault::NotInCopy);
         }
-        self.place = if is_whole {
-            Place::Given
-        } else {
-            Place::Withheld
+        let Some(place) = end_at(is_whole, self.place) else {
+            return Err(Fault::NotRefusable);
         };
+        self.place = place;
         Ok(())
     }
 
@@ -210,10 +212,11 @@ impl ClientFlow {
     fn is_asked(&self) -> bool
         ensures { result ≡ takes_data (client_of self.now) }
     {
-        if let EarlySyncs::InGroup(_, _, _, _) = self.early {
-            return false;
+        match self.early {
+            EarlySyncs::Usual => is_open(self.place),
+            EarlySyncs::InCopy(_) => self.place == Place::Asked,
+            EarlySyncs::InGroup(_, _, _, _) => false,
         }
-        self.place == Place::Asked
     }
 
     // Whether nothing that waits may take data of a COPY.
@@ -233,10 +236,11 @@ impl ClientFlow {
     pub fn may_give(&self) -> bool
         ensures { result ≡ gives (client_of self.now) }
     {
-        let is_over = self.place == Place::Given || self.place == Place::Withheld;
         match self.early {
-            EarlySyncs::Usual => self.first.is_none() || !self.rest.is_empty() || !is_over,
-            EarlySyncs::InCopy(_) => self.first.is_some() || !is_over,
+            EarlySyncs::Usual => {
+                self.first.is_none() || !self.rest.is_empty() || !has_ended(self.place)
+            }
+            EarlySyncs::InCopy(_) => self.first.is_some() || !has_ended(self.place),
             EarlySyncs::InGroup(_, _, _, _) => true,
         }
     }
@@ -376,18 +380,26 @@ impl ClientFlow {
                 self.place = Place::Start;
                 Ok(true)
             }
-            Next::At(Place::Asked) => {
-                if !self.rest.is_empty() {
-                    return Err(Fault::BehindCopy);
-                }
-                self.place = Place::Asked;
-                Ok(false)
-            }
-            Next::At(place) => {
-                self.place = place;
-                Ok(false)
-            }
+            Next::At(place) => self.come_to(request, place),
         }
+    }
+
+    // The answer to a request comes to a place. While the client gives data of a COPY, it has said nothing behind it.
+    fn come_to(&mut self, request: Request, place: Place) -> Result<bool, Fault>
+        requires first { self.old.first ≡ Some request }
+        ensures ok { OnOk result (at_place place request self.old.rest.items
+            ≡ Some (state (queue_in self.new) self.new.place)) }
+        ensures err { OnErr result (at_place place request self.old.rest.items ≡ None) }
+        ensures last { IfOk result (λ is_last. is_last ≡ false) }
+        ensures same { OnErr result (client_of self.new ≡ client_of self.old) }
+        ensures early { self.new.early ≡ self.old.early }
+        ensures said { self.new.said ≡ self.old.said }
+    {
+        if is_open(place) && !self.rest.is_empty() {
+            return Err(Fault::BehindCopy);
+        }
+        self.place = place;
+        Ok(false)
     }
 
     // Whether all that was said behind the first is Syncs.

@@ -13,6 +13,8 @@ pub enum Fault {
     InCopy,
     /// No COPY takes data.
     NotInCopy,
+    /// Data of a COPY go both ways: the client's are ended by CopyDone, and can't be refused.
+    NotRefusable,
     /// No request waits for an answer.
     Unasked,
     /// A server is done with no request before this one.

@@ -21,7 +21,7 @@ pub fn what_is_taken_is_answered()
     ensures { (es : List Event) → IsTaken es → Answered (requests es) false (answers_in es) }
 {}
 
-/// The answers that the grammar allows are taken: here all requests are said first, and no COPY asks for data.
+/// The answers that the grammar allows are taken: here all requests are said first, and no COPY takes data of the client.
 pub fn what_is_allowed_is_taken()
     ensures { (said : List Request) (heard : List Answer) → AsksForNone heard
         → Answered said false heard → IsTakenWhole (all_said said ++ all_heard heard) }
@@ -29,7 +29,8 @@ pub fn what_is_allowed_is_taken()
 
 /// Over every schedule, with any number of messages on their way in both directions: what the flow of a server allowed, that
 /// of the client takes, and as an answer to the same request, or to a group of Syncs with that among them; unless it is a
-/// CopyInResponse, and the client had said more behind the COPY than Syncs.
+/// CopyInResponse or a CopyBothResponse, and the client had said more behind the COPY than Syncs, or than nothing where data go
+/// both ways.
 pub fn client_and_server_agree()
     ensures { (choices : List Choice) → (schedule choices at_first).outcome ≢ Disagreed }
 {}

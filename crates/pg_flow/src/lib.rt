@@ -12,6 +12,7 @@
 //! - data of a COPY and their end where nothing that waits may take them, as after an error that crossed them
 //! - a description with its rows again before the CommandComplete of a Query, as rules make them, and an error between a
 //!   CommandComplete and ReadyForQuery
+//! - ReadyForQuery right behind an error of a COPY in both directions: PostgreSQL waits for no Sync there
 //! - a Sync before the end of a COPY's data in the extended protocol. A server drops it while it reads data, and answers it
 //!   where the COPY has failed; so the Syncs up to the next other answer are a group, whose ReadyForQuery are
 //!   [`Heard::Group`]
@@ -19,8 +20,8 @@
 //!
 //! # What is left out
 //!
-//! - CopyBothResponse, and so streaming replication: it is [`Fault::Unknown`]. What a base backup gives right behind the
-//!   CopyDone of its data, more data or rows without a CommandComplete between, is [`Fault::NotAnAnswer`].
+//! - CopyFail of a COPY in both directions, on which PostgreSQL ends the session: it is [`Fault::NotRefusable`], as a request
+//!   there is [`Fault::InCopy`]
 //! - CopyDone or CopyFail before the CopyInResponse is heard, while a request waits: it is [`Fault::NotInCopy`], though servers
 //!   take it.
 //! - After such an early Sync, another request than a Sync right behind the end of the data, and any while it isn't known
@@ -32,8 +33,8 @@
 //!
 //! Each call does what its definition says, exactly; which fault it is, tests see. The [`laws`] say more, and what they leave
 //! open: that the answers are those of the grammar is proved where no Sync is early, and the converse where all requests are
-//! said first and no COPY asks for data. That both ends agree is proved without last words and Terminate, and without data
-//! that a server drops.
+//! said first and no COPY takes data of the client. That both ends agree is proved without last words and Terminate, and
+//! without data that a server drops.
 #![tactic(auto)]
 
 mod answer;

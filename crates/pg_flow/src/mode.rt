@@ -18,6 +18,8 @@ pub enum Mode {
     CopyIn,
     /// The server gives data of a COPY.
     CopyOut,
+    /// Data of a COPY go both ways.
+    CopyBoth,
     /// No request waits, and after an error the server passes over each but a Sync.
     Skipping,
     /// Nothing may be asked any more.
@@ -29,8 +31,9 @@ pub fn mode_at(place: Place) -> Mode
     ensures { result ≡ mode_in place }
 {
     match place {
-        Place::Asked => Mode::CopyIn,
-        Place::Out => Mode::CopyOut,
+        Place::Asked | Place::BothIn => Mode::CopyIn,
+        Place::Out | Place::BothOut => Mode::CopyOut,
+        Place::Both => Mode::CopyBoth,
         _ => Mode::Busy,
     }
 }

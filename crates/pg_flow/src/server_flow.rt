@@ -8,7 +8,7 @@ use crate::answer::Answer;
 use crate::fault::Fault;
 use crate::heard::Heard;
 use crate::mode::{Mode, mode_at};
-use crate::place::Place;
+use crate::place::{Place, end_at, is_open};
 use crate::request::Request;
 use crate::table::{Next, ends_ready, step};
 
@@ -59,7 +59,11 @@ impl ServerFlow {
         };
         if self.request.is_some() {
             if self.place != Place::Asked {
-                return Err(Fault::Busy);
+                return Err(if is_open(self.place) {
+                    Fault::InCopy
+                } else {
+                    Fault::Busy
+                });
             }
             if request != Request::Sync {
                 return Err(Fault::InCopy);
@@ -96,14 +100,14 @@ impl ServerFlow {
         if self.request.is_none() {
             return Ok(());
         }
-        if self.place != Place::Asked {
-            return Err(Fault::Busy);
-        }
-        self.place = if is_whole {
-            Place::Given
-        } else {
-            Place::Withheld
+        let Some(place) = end_at(is_whole, self.place) else {
+            return Err(if is_open(self.place) {
+                Fault::NotRefusable
+            } else {
+                Fault::Busy
+            });
         };
+        self.place = place;
         Ok(())
     }
 
@@ -111,7 +115,7 @@ impl ServerFlow {
     pub fn reads(&self) -> bool
         ensures { result ≡ reads (server_of self.now) }
     {
-        self.request.is_none() || self.place == Place::Asked
+        self.request.is_none() || is_open(self.place)
     }
 
     /// The number of the request that is answered; where none is, of the next one.

@@ -36,6 +36,7 @@ impl ServerMessage {
             b's' => Some(ServerMessage::Answering(Answer::PortalSuspended)),
             b'G' => Some(ServerMessage::Answering(Answer::CopyIn)),
             b'H' => Some(ServerMessage::Answering(Answer::CopyOut)),
+            b'W' => Some(ServerMessage::Answering(Answer::CopyBoth)),
             b'd' => Some(ServerMessage::Answering(Answer::CopyData)),
             b'c' => Some(ServerMessage::Answering(Answer::CopyDone)),
             b'V' => Some(ServerMessage::Answering(Answer::FunctionResult)),

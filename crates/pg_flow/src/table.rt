@@ -2,7 +2,7 @@
 
 ghost use Rattle.std.specs.Prelude.{◌≡◌};
 ghost use Rattle.pg_flow.specs.Plain.{ends_ready};
-ghost use Rattle.pg_flow.specs.Table.{next_of, at_statement, at_next_statement, at_row_sets, at_data, at_complete, at_ready, in_query, at_portal, at_portal_rows, in_execute, in_call, in_sync, at_description, in_statement, in_portal};
+ghost use Rattle.pg_flow.specs.Table.{next_of, at_statement, at_next_statement, at_row_sets, at_data, at_next_copy, at_last_rows, at_data_both, at_complete, at_ready, in_query, at_portal, at_portal_rows, in_execute, in_call, in_sync, at_description, in_statement, in_portal};
 
 use crate::answer::Answer;
 use crate::place::Place;
@@ -27,6 +27,7 @@ fn statement(answer: Answer) -> Next
         Answer::CommandComplete | Answer::EmptyQuery => Next::At(Place::Over),
         Answer::CopyOut => Next::At(Place::Out),
         Answer::CopyIn => Next::At(Place::Asked),
+        Answer::CopyBoth => Next::At(Place::Both),
         _ => Next::Wrong,
     }
 }
@@ -47,6 +48,37 @@ fn copied(answer: Answer) -> Next
     match answer {
         Answer::CopyData => Next::At(Place::Out),
         Answer::CopyDone => Next::At(Place::OutDone),
+        _ => Next::Wrong,
+    }
+}
+
+// Behind the data of a COPY in a Query: those of another, or rows, may come before the CommandComplete.
+fn next_copy(answer: Answer) -> Next
+    ensures { result ≡ at_next_copy answer }
+{
+    match answer {
+        Answer::CopyOut => Next::At(Place::Out),
+        _ => last_rows(answer),
+    }
+}
+
+fn last_rows(answer: Answer) -> Next
+    ensures { result ≡ at_last_rows answer }
+{
+    match answer {
+        Answer::RowDescription => Next::At(Place::Rows),
+        Answer::CommandComplete => Next::At(Place::Over),
+        _ => Next::Wrong,
+    }
+}
+
+// The server's data of a COPY in both directions: where more of them lead, and where their end does.
+fn copied_both(more: Place, end: Place, answer: Answer) -> Next
+    ensures { result ≡ at_data_both more end answer }
+{
+    match answer {
+        Answer::CopyData => Next::At(more),
+        Answer::CopyDone => Next::At(end),
         _ => Next::Wrong,
     }
 }
@@ -86,7 +118,11 @@ fn within_query(place: Place, answer: Answer) -> Next
         Place::Over => next_statement(answer),
         Place::Rows => row_sets(answer),
         Place::Out => copied(answer),
-        Place::OutDone | Place::Given => complete(Next::At(Place::Over), answer),
+        Place::OutDone => next_copy(answer),
+        Place::Given => complete(Next::At(Place::Over), answer),
+        Place::Both => copied_both(Place::Both, Place::BothIn, answer),
+        Place::BothOut => copied_both(Place::BothOut, Place::BothDone, answer),
+        Place::BothDone => last_rows(answer),
         Place::Failed => ready(answer),
         _ => Next::Wrong,
     }
