@@ -3,6 +3,7 @@ pub mod BeginAnswer
 pub mod BeginRequest
 pub mod ClientFlow
 pub mod ClientMessage
+pub mod Faults
 pub mod Flow
 pub mod Grammar
 pub mod Logins

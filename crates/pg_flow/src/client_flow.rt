@@ -1,6 +1,7 @@
 //! A client's side: what it said that isn't answered, and how far the first answer has come.
 
 ghost use Rattle.std.specs.Prelude.{◌≡◌, ◌≢◌, ◌+◌, ◌-◌, true, false, List, [], Option, Some, None, OnOk, OnErr, IfOk, IfErr, length};
+ghost use Rattle.pg_flow.specs.Faults.{say_fault, copying_fault, end_fault, hear_fault, first_fault, rest_fault};
 ghost use Rattle.pg_flow.specs.Plain.{state, resumed, from_sync, is_open, at_place};
 ghost use Rattle.pg_flow.specs.ClientFlow.{Plain, Client, say, say_plain, say_copying, say_group, end_or_drop, drops_data, hear, hear_plain, hear_copying, hear_group, ready_group, all_syncs, behind, ends_first, ends_rest, whose, first_of, client_mode, takes_data, gives};
 
@@ -53,6 +54,8 @@ impl ClientFlow {
         ensures kept { OnErr result (self.new.said ≡ self.old.said) }
         ensures err { IfErr result (λ fault. fault ≢ Fault.Full
             → say request (client_of self.old) ≡ None) }
+        ensures fault { IfErr result (λ fault. fault ≢ Fault.Full
+            → fault ≡ say_fault (client_of self.old)) }
         ensures same { OnErr result (client_of self.new ≡ client_of self.old) }
     {
         let number = self.said;
@@ -76,6 +79,7 @@ impl ClientFlow {
             ≡ Some (client_of self.new)) }
         ensures err { IfErr result (λ fault. fault ≢ Fault.Full
             → say_plain (queue_in self.old) self.old.place request ≡ None) }
+        ensures fault { IfErr result (λ fault. fault ≢ Fault.Full → fault ≡ Fault.InCopy) }
         ensures same { OnErr result (client_of self.new ≡ client_of self.old) }
         ensures said { self.new.said ≡ self.old.said }
     {
@@ -102,6 +106,7 @@ impl ClientFlow {
         ensures ok { OnOk result (say_plain (queue_in self.old) self.old.place request
             ≡ Some (client_of self.new)) }
         ensures err { OnErr result (say_plain (queue_in self.old) self.old.place request ≡ None) }
+        ensures fault { IfErr result (λ fault. fault ≡ Fault.InCopy) }
         ensures same { OnErr result (client_of self.new ≡ client_of self.old) }
         ensures said { self.new.said ≡ self.old.said }
     {
@@ -123,6 +128,8 @@ impl ClientFlow {
             ≡ Some (client_of self.new)) }
         ensures err { IfErr result (λ fault. fault ≢ Fault.Full
             → say_copying early (queue_in self.old) self.old.place request ≡ None) }
+        ensures fault { IfErr result (λ fault. fault ≢ Fault.Full
+            → fault ≡ copying_fault self.old.place) }
         ensures same { OnErr result (client_of self.new ≡ client_of self.old) }
         ensures said { self.new.said ≡ self.old.said }
     {
@@ -162,6 +169,7 @@ impl ClientFlow {
             ≡ Some (client_of self.new)) }
         ensures err { IfErr result (λ fault. fault ≢ Fault.Full
             → say_group first least more (queue_in self.old) skips request ≡ None) }
+        ensures fault { IfErr result (λ fault. fault ≢ Fault.Full → fault ≡ Fault.SyncFirst) }
         ensures same { OnErr result (client_of self.new ≡ client_of self.old) }
         ensures said { self.new.said ≡ self.old.said }
     {
@@ -192,6 +200,7 @@ impl ClientFlow {
         ensures ok { OnOk result (end_or_drop is_whole (client_of self.old)
             ≡ Some (client_of self.new)) }
         ensures err { OnErr result (end_or_drop is_whole (client_of self.old) ≡ None) }
+        ensures fault { IfErr result (λ fault. fault ≡ end_fault (client_of self.old)) }
         ensures count { self.new.said ≡ self.old.said }
         ensures same { OnErr result (client_of self.new ≡ client_of self.old) }
     {
@@ -326,6 +335,7 @@ impl ClientFlow {
         ensures ok { OnOk result (hear self.old.said answer (client_of self.old)
             ≡ Some (client_of self.new)) }
         ensures err { OnErr result (hear self.old.said answer (client_of self.old) ≡ None) }
+        ensures fault { IfErr result (λ fault. fault ≡ hear_fault answer (client_of self.old)) }
         ensures whose { IfOk result (λ heard.
             heard ≡ whose self.old.said answer (client_of self.old)) }
         ensures count { self.new.said ≡ self.old.said }
@@ -359,6 +369,8 @@ impl ClientFlow {
         ensures ok { OnOk result (hear_plain answer (queue_in self.old) self.old.place
             ≡ Some (client_of self.new)) }
         ensures err { OnErr result (hear_plain answer (queue_in self.old) self.old.place ≡ None) }
+        ensures fault { IfErr result (λ fault.
+            fault ≡ first_fault answer (queue_in self.old) self.old.place) }
         ensures last { IfOk result (λ is_last.
             is_last ≡ ends_first answer (queue_in self.old) self.old.place) }
         ensures same { OnErr result (client_of self.new ≡ client_of self.old) }
@@ -390,6 +402,8 @@ impl ClientFlow {
         ensures ok { OnOk result (at_place place request self.old.rest.items
             ≡ Some (state (queue_in self.new) self.new.place)) }
         ensures err { OnErr result (at_place place request self.old.rest.items ≡ None) }
+        ensures fault { IfErr result (λ fault. fault ≡ Fault.BehindCopy) }
+        ensures open { OnErr result (is_open place ≡ true) }
         ensures last { IfOk result (λ is_last. is_last ≡ false) }
         ensures same { OnErr result (client_of self.new ≡ client_of self.old) }
         ensures early { self.new.early ≡ self.old.early }
@@ -425,6 +439,7 @@ impl ClientFlow {
             ≡ Some (client_of self.new)) }
         ensures err { OnErr result (hear_plain Answer.CopyIn (queue_in self.old) Place.Start
             ≡ None) }
+        ensures fault { IfErr result (λ fault. fault ≡ Fault.BehindCopy) }
         ensures last { IfOk result (λ is_last. is_last ≡ false) }
         ensures same { OnErr result (client_of self.new ≡ client_of self.old) }
         ensures said { self.new.said ≡ self.old.said }
@@ -470,6 +485,7 @@ impl ClientFlow {
             ≡ Some (client_of self.new)) }
         ensures err { OnErr result (hear_plain Answer.Failure (queue_in self.old) self.old.place
             ≡ None) }
+        ensures fault { IfErr result (λ fault. fault ≡ Fault.NotAnAnswer) }
         ensures last { IfOk result (λ is_last.
             is_last ≡ ends_first Answer.Failure (queue_in self.old) self.old.place) }
         ensures same { OnErr result (client_of self.new ≡ client_of self.old) }
@@ -493,6 +509,7 @@ impl ClientFlow {
             ≡ Some (client_of self.new)) }
         ensures err { OnErr result (
             hear_copying self.old.said early (queue_in self.old) self.old.place answer ≡ None) }
+        ensures fault { IfErr result (λ fault. fault ≡ Fault.NotAnAnswer) }
         ensures last { IfOk result (λ is_last. is_last ≡ true) }
         ensures same { OnErr result (client_of self.new ≡ client_of self.old) }
         ensures said { self.new.said ≡ self.old.said }
@@ -552,6 +569,8 @@ impl ClientFlow {
             ≡ Some (client_of self.new)) }
         ensures err { OnErr result (hear_group first least more (queue_in self.old) answer
             ≡ None) }
+        ensures fault { IfErr result (λ fault.
+            fault ≡ rest_fault least (queue_in self.old) answer) }
         ensures last { IfOk result (λ is_last. is_last ≡ ends_rest answer (queue_in self.old)) }
         ensures same { OnErr result (client_of self.new ≡ client_of self.old) }
         ensures said { self.new.said ≡ self.old.said }

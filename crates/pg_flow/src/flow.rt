@@ -3,6 +3,7 @@
 ghost use Rattle.std.specs.Prelude.{◌≡◌, ◌≢◌, Some, None, true, false, OnOk, OnErr, IfOk, IfErr};
 ghost use Rattle.pg_flow.specs.ClientFlow.View.{client_of};
 ghost use Rattle.pg_flow.specs.ServerFlow.View.{server_of};
+ghost use Rattle.pg_flow.specs.Faults.{said_fault, heard_fault, answered_fault, side_said_fault, side_heard_fault};
 ghost use Rattle.pg_flow.specs.Flow.{OfClient, OfServer, session_said, session_number, session_heard, session_whose, session_mode, answered_by, whose_answered, opened_by, whose_begun, begun_by, begins_or_flushes, status_after, side_said, side_heard, side_whose, side_mode, number_asked, count_of, first_in, waiting_in, is_client, first_session, ready_session, new_client, new_server};
 
 use crate::answer::Answer;
@@ -99,6 +100,8 @@ impl Flow {
             number ≡ session_number tag first.now (session_of self.old)) }
         ensures err { IfErr result (λ fault. fault ≢ Fault.Full
             → session_said tag first.now (session_of self.old) ≡ None) }
+        ensures fault { IfErr result (λ fault. fault ≢ Fault.Full
+            → fault ≡ said_fault tag first.now (session_of self.old)) }
         ensures same { OnErr result (session_of self.new ≡ session_of self.old) }
     {
         if tag == b'X' {
@@ -136,6 +139,8 @@ impl Flow {
         ensures whose { IfOk result (λ heard.
             heard ≡ session_whose tag first.now (session_of self.old)) }
         ensures err { OnErr result (session_heard tag first.now (session_of self.old) ≡ None) }
+        ensures fault { IfErr result (λ fault.
+            fault ≡ heard_fault tag first.now (session_of self.old)) }
         ensures same { OnErr result (session_of self.new ≡ session_of self.old) }
     {
         if self.left && !self.role.is_client() {
@@ -165,6 +170,7 @@ impl Flow {
             ≡ Some (session_of self.new)) }
         ensures whose { IfOk result (λ heard. heard ≡ whose_begun message) }
         ensures err { OnErr result (opened_by message (session_of self.old) ≡ None) }
+        ensures fault { IfErr result (λ fault. fault ≡ Fault.NotReady) }
         ensures same { OnErr result (session_of self.new ≡ session_of self.old) }
     {
         let Some(stage) = self.stage.heard(message) else {
@@ -183,6 +189,8 @@ impl Flow {
         ensures whose { IfOk result (λ heard.
             heard ≡ whose_answered message (session_of self.old)) }
         ensures err { OnErr result (answered_by message (session_of self.old) ≡ None) }
+        ensures fault { IfErr result (λ fault.
+            fault ≡ answered_fault (Some message) (session_of self.old).side) }
         ensures same { OnErr result (session_of self.new ≡ session_of self.old) }
     {
         match message {
@@ -321,6 +329,8 @@ impl Role {
         ensures number { IfOk result (λ number. number ≡ number_asked message (side_of self.old)) }
         ensures err { IfErr result (λ fault. fault ≢ Fault.Full
             → side_said message (side_of self.old) ≡ None) }
+        ensures fault { IfErr result (λ fault. fault ≢ Fault.Full
+            → fault ≡ side_said_fault message (side_of self.old)) }
         ensures same { OnErr result (side_of self.new ≡ side_of self.old) }
     {
         match self {
@@ -333,6 +343,7 @@ impl Role {
         ensures ok { OnOk result (side_heard answer (side_of self.old) ≡ Some (side_of self.new)) }
         ensures whose { IfOk result (λ heard. heard ≡ side_whose answer (side_of self.old)) }
         ensures err { OnErr result (side_heard answer (side_of self.old) ≡ None) }
+        ensures fault { IfErr result (λ fault. fault ≡ side_heard_fault answer (side_of self.old)) }
         ensures same { OnErr result (side_of self.new ≡ side_of self.old) }
     {
         match self {
@@ -349,6 +360,8 @@ fn said_by_client(client: &mut ClientFlow, message: ClientMessage) -> Result<Opt
         number ≡ number_asked message (OfClient (client_of client.old) client.old.said)) }
     ensures err { IfErr result (λ fault. fault ≢ Fault.Full
         → side_said message (OfClient (client_of client.old) client.old.said) ≡ None) }
+    ensures fault { IfErr result (λ fault. fault ≢ Fault.Full
+        → fault ≡ side_said_fault message (OfClient (client_of client.old) client.old.said)) }
     ensures same { OnErr result (client_of client.new ≡ client_of client.old) }
     ensures kept { OnErr result (client.new.said ≡ client.old.said) }
 {
@@ -379,6 +392,8 @@ fn taken_by_server(server: &mut ServerFlow, message: ClientMessage) -> Result<Op
         number ≡ number_asked message (OfServer (server_of server.old) server.old.taken)) }
     ensures err { IfErr result (λ fault. fault ≢ Fault.Full
         → side_said message (OfServer (server_of server.old) server.old.taken) ≡ None) }
+    ensures fault { IfErr result (λ fault. fault ≢ Fault.Full
+        → fault ≡ side_said_fault message (OfServer (server_of server.old) server.old.taken)) }
     ensures same { OnErr result (server_of server.new ≡ server_of server.old) }
     ensures kept { OnErr result (server.new.taken ≡ server.old.taken) }
 {

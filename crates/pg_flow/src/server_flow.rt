@@ -1,6 +1,7 @@
 //! A server's side, the mirror of a client's: it takes one request after another, each once it is done with the one before.
 
 ghost use Rattle.std.specs.Prelude.{◌≡◌, ◌≢◌, ◌+◌, [], Option, Some, None, true, OnOk, OnErr, IfOk, IfErr};
+ghost use Rattle.pg_flow.specs.Faults.{take_fault, take_end_fault, tell_fault};
 ghost use Rattle.pg_flow.specs.Plain.{went, is_last, is_done};
 ghost use Rattle.pg_flow.specs.ServerFlow.{Asks, Ends, Idle, take, tell, told, whose_told, reads, server_mode, first_taken};
 
@@ -51,6 +52,8 @@ impl ServerFlow {
         ensures kept { OnErr result (self.new.taken ≡ self.old.taken) }
         ensures err { IfErr result (λ fault. fault ≢ Fault.Full
             → take (Asks request) (server_of self.old) self.old.taken ≡ None) }
+        ensures fault { IfErr result (λ fault. fault ≢ Fault.Full
+            → fault ≡ take_fault (server_of self.old)) }
         ensures same { OnErr result (server_of self.new ≡ server_of self.old) }
     {
         let number = self.taken;
@@ -95,6 +98,7 @@ impl ServerFlow {
         ensures count { self.new.taken ≡ self.old.taken }
         ensures err { OnErr result (take (Ends is_whole) (server_of self.old) self.old.taken
             ≡ None) }
+        ensures fault { IfErr result (λ fault. fault ≡ take_end_fault (server_of self.old)) }
         ensures same { OnErr result (server_of self.new ≡ server_of self.old) }
     {
         if self.request.is_none() {
@@ -157,6 +161,7 @@ impl ServerFlow {
         ensures whose { IfOk result (λ heard. heard ≡ whose_told answer (server_of self.old)) }
         ensures count { self.new.taken ≡ self.old.taken }
         ensures err { OnErr result (tell answer (server_of self.old) ≡ None) }
+        ensures fault { IfErr result (λ fault. fault ≡ tell_fault (server_of self.old)) }
         ensures same { OnErr result (server_of self.new ≡ server_of self.old) }
     {
         let Some(request) = self.request else {
@@ -183,6 +188,7 @@ impl ServerFlow {
         ensures count { self.new.taken ≡ self.old.taken }
         ensures err { OnErr result (
             told (went next request []) request self.old.quiet self.old.number ≡ None) }
+        ensures fault { IfErr result (λ fault. fault ≡ Fault.NotAnAnswer) }
         ensures same { OnErr result (server_of self.new ≡ server_of self.old) }
     {
         match next {
@@ -207,6 +213,7 @@ impl ServerFlow {
         ensures last { IfOk result (λ last. last ≡ is_last Answer.Failure request self.old.place) }
         ensures count { self.new.taken ≡ self.old.taken }
         ensures err { OnErr result (tell Answer.Failure (server_of self.old) ≡ None) }
+        ensures fault { IfErr result (λ fault. fault ≡ Fault.NotAnAnswer) }
         ensures same { OnErr result (server_of self.new ≡ server_of self.old) }
     {
         match request {
