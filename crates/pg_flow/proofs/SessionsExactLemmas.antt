@@ -4,7 +4,7 @@ use Rattle.std.specs.Prelude.{if◌then◌else◌}
 use Rattle.pg_flow.specs.declared.answer.Answer.{Answer}
 use Rattle.pg_flow.specs.declared.answer.Answer.TheVariants.{CopyBoth, CopyIn, Failure, Ready}
 use Rattle.pg_flow.specs.declared.place.Place.{Place}
-use Rattle.pg_flow.specs.declared.place.Place.TheVariants.{Asked, Both, BothIn, Failed, Skipping, Start}
+use Rattle.pg_flow.specs.declared.place.Place.TheVariants.{Asked, Both, BothIn, BothOut, Failed, Given, Skipping, Start}
 use Rattle.pg_flow.specs.declared.request.Request.{Request}
 use Rattle.pg_flow.specs.declared.request.Request.TheVariants.{Bind, Call, Close, DescribePortal, DescribeStatement, Execute, Parse, Query, Sync}
 use Rattle.pg_flow.specs.declared.table.Next.{Next}
@@ -12,13 +12,14 @@ use Rattle.pg_flow.specs.declared.table.Next.TheVariants.{At, Done, Wrong}
 use Rattle.pg_flow.specs.Answered.{Answered, Choose, OneOf, Parts}
 use Rattle.pg_flow.specs.ClientFlow.{Plain}
 use Rattle.pg_flow.specs.Pattern.{Is, Matches, Pattern, Then}
-use Rattle.pg_flow.specs.Plain.{State, answers, at_place, ends_ready, failed_at, failed_ready, from_sync, is_open, resumed, said, said_to, state, went}
-use Rattle.pg_flow.specs.Sessions.{AsksForNone, Event, Got, IsTakenWhole, Sent, all_heard, all_said, as_plain, run, steps}
+use Rattle.pg_flow.specs.Plain.{State, answers, at_place, ends_ready, failed_at, failed_ready, from_sync, is_open, opens_data, resumed, said, said_to, state, went}
+use Rattle.pg_flow.specs.Sessions.{AsksForNone, Ended, Event, Got, IsTakenInTurn, IsTakenWhole, Sent, all_heard, all_said, answers_in, as_plain, requests, run, steps}
 use Rattle.pg_flow.specs.Table.{next_of}
 use Rattle.pg_flow.proofs.DeriveLemmas.{derive, derived, nullable, when_empty}
+use Rattle.pg_flow.proofs.PlainLemmas.{AskedBy, asked_by}
 use Rattle.pg_flow.proofs.RestLemmas.{cut, rest}
 use Rattle.pg_flow.proofs.SessionsLemmas.{After, steps_plain}
-use Rattle.pg_flow.proofs.TableExactLemmas.{Fails_to, Leads_to, exact, fails_to, not_over, usual}
+use Rattle.pg_flow.proofs.TableExactLemmas.{Fails_to, Leads_to, exact, fails_to, not_over, soon, usual}
 
 impossible : {A : Type 0} → false ≡ true → A
 impossible e = cc
@@ -127,24 +128,35 @@ fit_resumed : (qs : List Request) → Fit (resumed qs).queue (resumed qs).place
 fit_resumed [] = tt
 fit_resumed (q ∷ qs) = refl
 
-at_on : (p : Place) (r : Request) (rs : List Request) (ms : List Answer) → usual p r ≡ true → After (r ∷ rs) p [] ms → Goes_on (at_place p r rs) ms
-at_on Asked r rs ms e h = impossible e
-at_on Both r rs ms e h = impossible e
-at_on BothIn r rs ms e h = impossible e
-at_on p r rs ms e h = record { next = state (r ∷ rs) p; is_next = refl; fits = e; allows = h }
+-- no COPY asks for data
+Never_opens : Answer → Type 0
+Never_opens m = opens_data m ≡ true → ⊥
+
+at_on : (p : Place) (r : Request) (place : Place) (m : Answer) (rs : List Request) (ms : List Answer) → (m ≡ Failure → ⊥) → nullable (rest place r) ≡ false →
+    AskedBy m (At p) → Never_opens m → Leads_to r place m (soon (At p)) → After (r ∷ rs) place [] (m ∷ ms) → Goes_on (at_place p r rs) ms
+unfolding Never_opens
+at_on Asked r place m rs ms n nul a never l h = absurd (never a)
+at_on Both r place m rs ms n nul a never l h = absurd (never a)
+at_on BothIn r place m rs ms n nul a never l h = absurd (never a)
+at_on p r place m rs ms n nul a never (f, g, u) h =
+    record {
+      next = state (r ∷ rs) p;
+      is_next = refl;
+      fits = u;
+      allows = one_at (ends_ready r) m (rest place r) (rest p r) (cut place r) (cut p r) (Answered (rs ++ []) false) (Answered (rs ++ []) true) ms n nul f g h;
+    }
 
 went_on : (n : Next) (r : Request) (place : Place) (m : Answer) (rs : List Request) (ms : List Answer) → (m ≡ Failure → ⊥) → nullable (rest place r) ≡ false →
-    Leads_to r place m n → After (r ∷ rs) place [] (m ∷ ms) → Goes_on (went n r rs) ms
-went_on (At p) r place m rs ms n nul (f, g, u) h =
-    at_on p r rs ms u (one_at (ends_ready r) m (rest place r) (rest p r) (cut place r) (cut p r) (Answered (rs ++ []) false) (Answered (rs ++ []) true) ms n nul f g h)
-went_on Done r place m rs ms n nul (f, g, u) h =
+    AskedBy m n → Never_opens m → Leads_to r place m (soon n) → After (r ∷ rs) place [] (m ∷ ms) → Goes_on (went n r rs) ms
+went_on (At p) r place m rs ms n nul a never l h = at_on p r place m rs ms n nul a never l h
+went_on Done r place m rs ms n nul a never (f, g, u) h =
     record {
       next = state rs Start;
       is_next = refl;
       fits = fit_start rs;
       allows = to_start rs ms (one_done (ends_ready r) m (rest place r) (cut place r) (Answered (rs ++ []) false) (Answered (rs ++ []) true) ms n nul f g h);
     }
-went_on Wrong r place m rs ms n nul (f, g, u) h =
+went_on Wrong r place m rs ms n nul a never (f, g, u) h =
     absurd (one_wrong (ends_ready r) m (rest place r) (cut place r) (Answered (rs ++ []) false) (Answered (rs ++ []) true) ms n nul f g h)
 
 ready_on : (place : Place) (r : Request) (rs : List Request) (ms : List Answer) → ends_ready r ≡ true → nullable (rest place r) ≡ false → Fails_to true r place →
@@ -183,12 +195,23 @@ failed_on DescribePortal place rs ms e h = extended_on DescribePortal place rs m
 failed_on Execute place rs ms e h = extended_on Execute place rs ms (not_over Execute place e) (fails_to Execute place e) h
 failed_on Close place rs ms e h = extended_on Close place rs ms (not_over Close place e) (fails_to Close place e) h
 
+usual_closed : (r : Request) (place : Place) → usual place r ≡ true → is_open place ≡ false
+usual_closed r Asked e = impossible e
+usual_closed r Both e = impossible e
+usual_closed r BothIn e = impossible e
+usual_closed r _ e = refl
+
+never_opens : (m : Answer) (ms : List Answer) → AsksForNone (m ∷ ms) → Never_opens m
+unfolding Never_opens
+never_opens CopyIn ms h e = h
+never_opens CopyBoth ms h e = h
+never_opens _ ms h e = impossible e
+
 answer_on : (m : Answer) (r : Request) (place : Place) (rs : List Request) (ms : List Answer) → usual place r ≡ true → AsksForNone (m ∷ ms) →
     After (r ∷ rs) place [] (m ∷ ms) → Goes_on (answers m r place rs) ms
 answer_on Failure r place rs ms e none h = failed_on r place rs ms e h
-answer_on CopyIn r place rs ms e none h = absurd none
-answer_on CopyBoth r place rs ms e none h = absurd none
-answer_on m r place rs ms e none h = went_on (next_of r place m) r place m rs ms (λ f. cc) (not_over r place e) (exact r place e m) h
+answer_on m r place rs ms e none h =
+    went_on (next_of r place m) r place m rs ms (λ f. cc) (not_over r place e) (asked_by r place m (usual_closed r place e)) (never_opens m ms none) (exact r place e m) h
 
 asks_later : (m : Answer) (ms : List Answer) → AsksForNone (m ∷ ms) → AsksForNone ms
 asks_later CopyIn ms h = absurd h
@@ -256,3 +279,102 @@ allowed_is_taken rs ms none h =
     said_first_all rs (all_heard ms) start refl ∙ ap (λ (s : State). run (all_heard ms) (Some s)) (pushes_idle rs) in
     let P : Option State → Type 0 = λ o. (p : Place) × (o ≡ Some (state [] p)) in
     subst P (sym e) (all_taken ms rs Start (fit_start rs) none (to_start rs ms all))
+
+-- each request is said once the one before it is answered, and the data of a COPY are ended as soon as they are asked for
+
+record In_turn (rs : List Request) (o : Option State) (ms : List Answer) : Type 0 where
+  events : List Event
+  says : requests events ≡ rs
+  hears : answers_in events ≡ ms
+  place : Place
+  ends : run events o ≡ Some (state [] place)
+
+abbrev idle : Bool → Place
+idle true = Skipping
+idle false = Start
+
+-- what is made of the later requests, and of later answers to the first
+abbrev Later : List Request → Type 0
+Later rs = (skips : Bool) (ms : List Answer) → Answered rs skips ms → In_turn rs (Some (state [] (idle skips))) ms
+
+abbrev Again : Request → List Request → List Answer → Type 0
+Again r rs ms = (p : Place) → usual p r ≡ true → After (r ∷ []) p rs ms → In_turn rs (Some (state (r ∷ []) p)) ms
+
+heard_turn : (m : Answer) (r : Request) (place : Place) (rs : List Request) (ms : List Answer) → In_turn rs (answers m r place []) ms → In_turn rs (Some (state (r ∷ []) place)) (m ∷ ms)
+heard_turn m r place rs ms t =
+    record { events = Got m ∷ t.events; says = t.says; hears = ap (λ (v : List Answer). m ∷ v) t.hears; place = t.place; ends = ap (run t.events) (steps_plain (Got m) (state (r ∷ []) place)) ∙ t.ends }
+
+ended_turn : (r : Request) (place q : Place) (rs : List Request) (ms : List Answer) → as_plain (steps (Ended true) (Plain (state (r ∷ []) place))) ≡ Some (state (r ∷ []) q) →
+    In_turn rs (Some (state (r ∷ []) q)) ms → In_turn rs (Some (state (r ∷ []) place)) ms
+ended_turn r place q rs ms e t = record { events = Ended true ∷ t.events; says = t.says; hears = t.hears; place = t.place; ends = ap (run t.events) e ∙ t.ends }
+
+said_turn : (r : Request) (s : State) (o : Option State) (rs : List Request) (ms : List Answer) → as_plain (steps (Sent r) (Plain s)) ≡ o → In_turn rs o ms → In_turn (r ∷ rs) (Some s) ms
+said_turn r s o rs ms e t =
+    record { events = Sent r ∷ t.events; says = ap (λ (l : List Request). r ∷ l) t.says; hears = t.hears; place = t.place; ends = ap (run t.events) e ∙ t.ends }
+
+at_turn : (p : Place) (r : Request) (place : Place) (m : Answer) (rs : List Request) (ms : List Answer) → (m ≡ Failure → ⊥) → nullable (rest place r) ≡ false →
+    Leads_to r place m (soon (At p)) → After (r ∷ []) place rs (m ∷ ms) → Again r rs ms → In_turn rs (at_place p r []) ms
+at_turn Asked r place m rs ms n nul (f, g, u) h again =
+    ended_turn r Asked Given rs ms refl
+    (again Given u (one_at (ends_ready r) m (rest place r) (rest Given r) (cut place r) (cut Given r) (Answered rs false) (Answered rs true) ms n nul f g h))
+at_turn Both r place m rs ms n nul (f, g, u) h again =
+    ended_turn r Both BothOut rs ms refl
+    (again BothOut u (one_at (ends_ready r) m (rest place r) (rest BothOut r) (cut place r) (cut BothOut r) (Answered rs false) (Answered rs true) ms n nul f g h))
+at_turn BothIn r place m rs ms n nul (f, g, u) h again = impossible u
+at_turn p r place m rs ms n nul (f, g, u) h again =
+    again p u (one_at (ends_ready r) m (rest place r) (rest p r) (cut place r) (cut p r) (Answered rs false) (Answered rs true) ms n nul f g h)
+
+went_turn : (n : Next) (r : Request) (place : Place) (m : Answer) (rs : List Request) (ms : List Answer) → (m ≡ Failure → ⊥) → nullable (rest place r) ≡ false →
+    Leads_to r place m (soon n) → After (r ∷ []) place rs (m ∷ ms) → Later rs → Again r rs ms → In_turn rs (went n r []) ms
+went_turn (At p) r place m rs ms n nul l h later again = at_turn p r place m rs ms n nul l h again
+went_turn Done r place m rs ms n nul (f, g, u) h later again =
+    later false ms (one_done (ends_ready r) m (rest place r) (cut place r) (Answered rs false) (Answered rs true) ms n nul f g h)
+went_turn Wrong r place m rs ms n nul (f, g, u) h later again =
+    absurd (one_wrong (ends_ready r) m (rest place r) (cut place r) (Answered rs false) (Answered rs true) ms n nul f g h)
+
+ready_turn : (place : Place) (r : Request) (rs : List Request) (ms : List Answer) → ends_ready r ≡ true → nullable (rest place r) ≡ false → Fails_to true r place →
+    Parts (rest place r) (Answered rs false) (Failure ∷ ms) → Again r rs ms → In_turn rs (failed_ready place r []) ms
+ready_turn Failed r rs ms e nul f h again =
+    absurd (parts_wrong Failure (rest Failed r) (Answered rs false) ms (λ a k. f a (derive Failure (rest Failed r) a k)) (begins Failure (rest Failed r) (Answered rs false) ms nul h))
+ready_turn place r rs ms e nul f h again =
+    let P : Bool → Type 0 = λ b. OneOf b (Is Ready) (cut Failed r) (Answered rs false) (Answered rs true) ms in
+    again Failed e
+    (subst P (sym e) (parts_on Failure (rest place r) (Is Ready) (Answered rs false) ms (λ a k. f a (derive Failure (rest place r) a k)) (begins Failure (rest place r) (Answered rs false) ms nul h)))
+
+extended_turn : (r : Request) (place : Place) (rs : List Request) (ms : List Answer) → nullable (rest place r) ≡ false → Fails_to false r place →
+    OneOf false (rest place r) (cut place r) (Answered rs false) (Answered rs true) (Failure ∷ ms) → Later rs → In_turn rs (Some (state [] Skipping)) ms
+extended_turn r place rs ms nul (f, g) (inl h) later =
+    absurd (parts_wrong Failure (rest place r) (Answered rs false) ms (λ a k. f a (derive Failure (rest place r) a k)) (begins Failure (rest place r) (Answered rs false) ms nul h))
+extended_turn r place rs ms nul (f, g) (inr h) later =
+    let c : Pattern = Then (cut place r) (Is Failure) in
+    later true ms (parts_done Failure c (Answered rs true) ms (λ a k. g a (derive Failure c a k)) (begins Failure c (Answered rs true) ms (never_empty (cut place r)) h))
+
+failed_turn : (r : Request) (place : Place) (rs : List Request) (ms : List Answer) → usual place r ≡ true → After (r ∷ []) place rs (Failure ∷ ms) → Later rs → Again r rs ms →
+    In_turn rs (failed_at r place []) ms
+failed_turn Query place rs ms e h later again = ready_turn place Query rs ms refl (not_over Query place e) (fails_to Query place e) h again
+failed_turn Call place rs ms e h later again = ready_turn place Call rs ms refl (not_over Call place e) (fails_to Call place e) h again
+failed_turn Sync place rs ms e h later again = ready_turn place Sync rs ms refl (not_over Sync place e) (fails_to Sync place e) h again
+failed_turn Parse place rs ms e h later again = extended_turn Parse place rs ms (not_over Parse place e) (fails_to Parse place e) h later
+failed_turn Bind place rs ms e h later again = extended_turn Bind place rs ms (not_over Bind place e) (fails_to Bind place e) h later
+failed_turn DescribeStatement place rs ms e h later again = extended_turn DescribeStatement place rs ms (not_over DescribeStatement place e) (fails_to DescribeStatement place e) h later
+failed_turn DescribePortal place rs ms e h later again = extended_turn DescribePortal place rs ms (not_over DescribePortal place e) (fails_to DescribePortal place e) h later
+failed_turn Execute place rs ms e h later again = extended_turn Execute place rs ms (not_over Execute place e) (fails_to Execute place e) h later
+failed_turn Close place rs ms e h later again = extended_turn Close place rs ms (not_over Close place e) (fails_to Close place e) h later
+
+answer_turn : (m : Answer) (r : Request) (place : Place) (rs : List Request) (ms : List Answer) → usual place r ≡ true → After (r ∷ []) place rs (m ∷ ms) → Later rs → Again r rs ms →
+    In_turn rs (answers m r place []) ms
+answer_turn Failure r place rs ms e h later again = failed_turn r place rs ms e h later again
+answer_turn m r place rs ms e h later again = went_turn (next_of r place m) r place m rs ms (λ f. cc) (not_over r place e) (exact r place e m) h later again
+
+one_turn : (ms : List Answer) (r : Request) (place : Place) (rs : List Request) → usual place r ≡ true → After (r ∷ []) place rs ms → Later rs → In_turn rs (Some (state (r ∷ []) place)) ms
+one_turn [] r place rs e h later = absurd (no_one (ends_ready r) (rest place r) (cut place r) (Answered rs false) (Answered rs true) (not_over r place e) h)
+one_turn (m ∷ ms) r place rs e h later = heard_turn m r place rs ms (answer_turn m r place rs ms e h later (λ p f a. one_turn ms r p rs f a later))
+
+all_turns : (rs : List Request) (skips : Bool) (ms : List Answer) → Answered rs skips ms → In_turn rs (Some (state [] (idle skips))) ms
+all_turns [] skips ms h = record { events = []; says = refl; hears = sym h; place = idle skips; ends = refl }
+all_turns (r ∷ rs) false ms h = said_turn r (state [] Start) (Some (state (r ∷ []) Start)) rs ms refl (one_turn ms r Start rs refl h (all_turns rs))
+all_turns (Sync ∷ rs) true ms h = said_turn Sync (state [] Skipping) (Some (state (Sync ∷ []) Start)) rs ms refl (one_turn ms Sync Start rs refl h (all_turns rs))
+all_turns (r ∷ rs) true ms h = said_turn r (state [] Skipping) (Some (state [] Skipping)) rs ms refl (all_turns rs true ms h)
+
+pub allowed_in_turn : (rs : List Request) (ms : List Answer) → Answered rs false ms → IsTakenInTurn rs ms
+allowed_in_turn rs ms h = let t : In_turn rs (Some (state [] Start)) ms = all_turns rs false ms h in (t.events, t.says, t.hears, (t.place, t.ends))

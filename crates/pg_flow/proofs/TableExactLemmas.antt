@@ -4,7 +4,7 @@ use Rattle.std.proofs.Common.{◌≡◌, List, [], ◌++◌, refl, ap, ◌∙◌
 use Rattle.pg_flow.specs.declared.answer.Answer.{Answer}
 use Rattle.pg_flow.specs.declared.answer.Answer.TheVariants.{CommandComplete, CopyBoth, CopyIn, CopyOut, Failure, Ready, RowDescription}
 use Rattle.pg_flow.specs.declared.place.Place.{Place}
-use Rattle.pg_flow.specs.declared.place.Place.TheVariants.{Failed, Given, Out, OutDone, Over, Parameters, Rows, Start, Value}
+use Rattle.pg_flow.specs.declared.place.Place.TheVariants.{Asked, Both, BothDone, BothOut, Failed, Given, Out, OutDone, Over, Parameters, Rows, Start, Value}
 use Rattle.pg_flow.specs.declared.request.Request.{Request}
 use Rattle.pg_flow.specs.declared.request.Request.TheVariants.{Bind, Call, Close, DescribePortal, DescribeStatement, Execute, Parse, Query, Sync}
 use Rattle.pg_flow.specs.declared.table.Next.{Next}
@@ -18,7 +18,7 @@ use Rattle.pg_flow.proofs.DeriveLemmas.{derived, nullable}
 use Rattle.pg_flow.proofs.PatternLemmas.{both}
 use Rattle.pg_flow.proofs.RestLemmas.{cut, data_end, rest, row_sets}
 
--- the places that an answer to the request can come to, but those where data of a COPY are asked for or withheld
+-- the places that an answer to the request can come to, where the client ends the data of a COPY as soon as they are asked for
 abbrev pub over_rows : Request → Bool
 over_rows Query = true
 over_rows Execute = true
@@ -43,6 +43,8 @@ usual Rows r = over_rows r
 usual Out r = over_rows r
 usual OutDone r = over_rows r
 usual Given r = over_rows r
+usual BothOut r = over_statements r
+usual BothDone r = over_statements r
 usual Parameters r = over_parameters r
 usual Value r = over_value r
 usual Failed r = ends_ready r
@@ -58,17 +60,19 @@ Leads_to r place m Done =
 Leads_to r place m Wrong =
     ((w : List Answer) → Matches (derived m (rest place r)) w → ⊥) × Choose (ends_ready r) (Unit {0}) ((w : List Answer) → Matches (derived m (cut place r)) w → ⊥) × (true ≡ true)
 
--- an error is looked at apart, and the end of a COPY's data is no answer
+-- where the client then ends the data of a COPY
+abbrev pub soon : Next → Next
+soon (At Asked) = At Given
+soon (At Both) = At BothOut
+soon next = next
+
+-- an error is looked at apart
 abbrev pub Exact : Request → Place → Answer → Type 0
 Exact r place Failure = Unit {0}
-Exact r place CopyIn = Unit {0}
-Exact r place CopyBoth = Unit {0}
-Exact r place m = Leads_to r place m (next_of r place m)
+Exact r place m = Leads_to r place m (soon (next_of r place m))
 
 query_start : (m : Answer) → Exact Query Start m
 query_start Failure = tt
-query_start CopyIn = tt
-query_start CopyBoth = tt
 query_start _ = ((λ w h. h), tt, refl)
 
 regroup : (x y z : Pattern) (w : List Answer) → Matches (Then (Then x y) z) w → Matches (Then x (Then y z)) w
@@ -76,136 +80,102 @@ regroup x y z w (a, b, e, (c, d, f, h, k), l) = (c, d ++ b, e ∙ ap (λ (v : Li
 
 query_over : (m : Answer) → Exact Query Over m
 query_over Failure = tt
-query_over CopyIn = tt
-query_over CopyBoth = tt
 query_over RowDescription = ((λ w h. both (regroup (Then row_sets (Is CommandComplete)) (Many statement) (Either (Is Ready) (Then broken failed)) w) (λ k. k) h), tt, refl)
+query_over CopyIn = ((λ w h. both (regroup (Is CommandComplete) (Many statement) (Either (Is Ready) (Then broken failed)) w) (λ k. k) h), tt, refl)
+query_over CopyBoth = ((λ w h. both (regroup (Then data_end sets_end) (Many statement) (Either (Is Ready) (Then broken failed)) w) (λ k. k) h), tt, refl)
 query_over CopyOut = ((λ w h. both (regroup (Then (Then data_end (Many copy_out)) sets_end) (Many statement) (Either (Is Ready) (Then broken failed)) w) (λ k. k) h), tt, refl)
 query_over _ = ((λ w h. h), tt, refl)
 
 query_rows : (m : Answer) → Exact Query Rows m
 query_rows Failure = tt
-query_rows CopyIn = tt
-query_rows CopyBoth = tt
 query_rows _ = ((λ w h. h), tt, refl)
 
 query_out : (m : Answer) → Exact Query Out m
 query_out Failure = tt
-query_out CopyIn = tt
-query_out CopyBoth = tt
 query_out _ = ((λ w h. h), tt, refl)
 
 query_out_done : (m : Answer) → Exact Query OutDone m
 query_out_done Failure = tt
-query_out_done CopyIn = tt
-query_out_done CopyBoth = tt
 query_out_done _ = ((λ w h. h), tt, refl)
 
 query_given : (m : Answer) → Exact Query Given m
 query_given Failure = tt
-query_given CopyIn = tt
-query_given CopyBoth = tt
 query_given _ = ((λ w h. h), tt, refl)
+
+query_both_out : (m : Answer) → Exact Query BothOut m
+query_both_out Failure = tt
+query_both_out _ = ((λ w h. h), tt, refl)
+
+query_both_done : (m : Answer) → Exact Query BothDone m
+query_both_done Failure = tt
+query_both_done _ = ((λ w h. h), tt, refl)
 
 query_failed : (m : Answer) → Exact Query Failed m
 query_failed Failure = tt
-query_failed CopyIn = tt
-query_failed CopyBoth = tt
 query_failed _ = ((λ w h. h), tt, refl)
 
 call_start : (m : Answer) → Exact Call Start m
 call_start Failure = tt
-call_start CopyIn = tt
-call_start CopyBoth = tt
 call_start _ = ((λ w h. h), tt, refl)
 
 call_value : (m : Answer) → Exact Call Value m
 call_value Failure = tt
-call_value CopyIn = tt
-call_value CopyBoth = tt
 call_value _ = ((λ w h. h), tt, refl)
 
 call_failed : (m : Answer) → Exact Call Failed m
 call_failed Failure = tt
-call_failed CopyIn = tt
-call_failed CopyBoth = tt
 call_failed _ = ((λ w h. h), tt, refl)
 
 sync_start : (m : Answer) → Exact Sync Start m
 sync_start Failure = tt
-sync_start CopyIn = tt
-sync_start CopyBoth = tt
 sync_start _ = ((λ w h. h), tt, refl)
 
 sync_failed : (m : Answer) → Exact Sync Failed m
 sync_failed Failure = tt
-sync_failed CopyIn = tt
-sync_failed CopyBoth = tt
 sync_failed _ = ((λ w h. h), tt, refl)
 
 parse_start : (m : Answer) → Exact Parse Start m
 parse_start Failure = tt
-parse_start CopyIn = tt
-parse_start CopyBoth = tt
 parse_start _ = ((λ w h. h), (λ w h. h), refl)
 
 bind_start : (m : Answer) → Exact Bind Start m
 bind_start Failure = tt
-bind_start CopyIn = tt
-bind_start CopyBoth = tt
 bind_start _ = ((λ w h. h), (λ w h. h), refl)
 
 close_start : (m : Answer) → Exact Close Start m
 close_start Failure = tt
-close_start CopyIn = tt
-close_start CopyBoth = tt
 close_start _ = ((λ w h. h), (λ w h. h), refl)
 
 portal_start : (m : Answer) → Exact DescribePortal Start m
 portal_start Failure = tt
-portal_start CopyIn = tt
-portal_start CopyBoth = tt
 portal_start _ = ((λ w h. h), (λ w h. h), refl)
 
 statement_start : (m : Answer) → Exact DescribeStatement Start m
 statement_start Failure = tt
-statement_start CopyIn = tt
-statement_start CopyBoth = tt
 statement_start _ = ((λ w h. h), (λ w h. h), refl)
 
 statement_parameters : (m : Answer) → Exact DescribeStatement Parameters m
 statement_parameters Failure = tt
-statement_parameters CopyIn = tt
-statement_parameters CopyBoth = tt
 statement_parameters _ = ((λ w h. h), (λ w h. h), refl)
 
 execute_start : (m : Answer) → Exact Execute Start m
 execute_start Failure = tt
-execute_start CopyIn = tt
-execute_start CopyBoth = tt
 execute_start _ = ((λ w h. h), (λ w h. h), refl)
 
 execute_rows : (m : Answer) → Exact Execute Rows m
 execute_rows Failure = tt
-execute_rows CopyIn = tt
-execute_rows CopyBoth = tt
 execute_rows _ = ((λ w h. h), (λ w h. h), refl)
 
 execute_out : (m : Answer) → Exact Execute Out m
 execute_out Failure = tt
-execute_out CopyIn = tt
-execute_out CopyBoth = tt
 execute_out _ = ((λ w h. h), (λ w h. h), refl)
 
 execute_out_done : (m : Answer) → Exact Execute OutDone m
 execute_out_done Failure = tt
-execute_out_done CopyIn = tt
-execute_out_done CopyBoth = tt
 execute_out_done _ = ((λ w h. h), (λ w h. h), refl)
 
 execute_given : (m : Answer) → Exact Execute Given m
 execute_given Failure = tt
-execute_given CopyIn = tt
-execute_given CopyBoth = tt
 execute_given _ = ((λ w h. h), (λ w h. h), refl)
 
 impossible : {A : Type 0} → false ≡ true → A
@@ -218,6 +188,8 @@ exact Query Rows e m = query_rows m
 exact Query Out e m = query_out m
 exact Query OutDone e m = query_out_done m
 exact Query Given e m = query_given m
+exact Query BothOut e m = query_both_out m
+exact Query BothDone e m = query_both_done m
 exact Query Failed e m = query_failed m
 exact Call Start e m = call_start m
 exact Call Value e m = call_value m
@@ -251,6 +223,8 @@ fails_to Query Rows e = λ w h. h
 fails_to Query Out e = λ w h. h
 fails_to Query OutDone e = λ w h. h
 fails_to Query Given e = λ w h. h
+fails_to Query BothOut e = λ w h. h
+fails_to Query BothDone e = λ w h. h
 fails_to Query Failed e = λ w h. h
 fails_to Call Start e = λ w h. h
 fails_to Call Value e = λ w h. h
@@ -277,6 +251,8 @@ not_over Query Rows e = refl
 not_over Query Out e = refl
 not_over Query OutDone e = refl
 not_over Query Given e = refl
+not_over Query BothOut e = refl
+not_over Query BothDone e = refl
 not_over Query Failed e = refl
 not_over Call Start e = refl
 not_over Call Value e = refl

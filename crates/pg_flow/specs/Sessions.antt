@@ -61,6 +61,10 @@ abbrev pub all_heard : List Answer → List Event
 all_heard [] = []
 all_heard (m ∷ ms) = Got m ∷ all_heard ms
 
+-- so is some session, in which the client says these and hears these
+abbrev pub IsTakenInTurn : List Request → List Answer → Type 0
+IsTakenInTurn said heard = (events : List Event) × (requests events ≡ said) × (answers_in events ≡ heard) × IsTakenWhole events
+
 -- no COPY asks for data
 abbrev pub AsksForNone : List Answer → Type 0
 AsksForNone [] = Unit {0}

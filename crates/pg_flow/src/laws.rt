@@ -11,7 +11,7 @@ ghost use Rattle.pg_flow.specs.Logins.{Turn, Begun, logins, at_opening, begin_ru
 ghost use Rattle.pg_flow.specs.declared.answer.Answer.{Answer};
 ghost use Rattle.pg_flow.specs.declared.request.Request.{Request};
 ghost use Rattle.pg_flow.specs.Answered.{Answered};
-ghost use Rattle.pg_flow.specs.Sessions.{Event, IsTaken, IsTakenWhole, requests, answers_in, all_said, all_heard, AsksForNone};
+ghost use Rattle.pg_flow.specs.Sessions.{Event, IsTaken, IsTakenWhole, IsTakenInTurn, requests, answers_in, all_said, all_heard, AsksForNone};
 ghost use Rattle.pg_flow.specs.World.{Choice, Disagreed, schedule, at_first};
 
 /// Whatever a client says and hears, and in whatever order, while it says no Sync before the end of a COPY's data: where its
@@ -25,6 +25,13 @@ pub fn what_is_taken_is_answered()
 pub fn what_is_allowed_is_taken()
     ensures { (said : List Request) (heard : List Answer) → AsksForNone heard
         → Answered said false heard → IsTakenWhole (all_said said ++ all_heard heard) }
+{}
+
+/// All that the grammar allows is taken, data of a COPY too: in some session the client says this, hears that, and its flow takes
+/// it, where each request is said once the one before is answered, and data are ended as soon as they are asked for.
+pub fn what_is_allowed_is_taken_in_turn()
+    ensures { (said : List Request) (heard : List Answer) → Answered said false heard
+        → IsTakenInTurn said heard }
 {}
 
 /// Over every schedule, with any number of messages on their way in both directions: what the flow of a server allowed, that

@@ -33,8 +33,8 @@
 //!
 //! Each call does what its definition says, exactly, and a fault is the one that its definition names, or [`Fault::Full`]. The
 //! [`laws`] say more, and what they leave open: that the answers are those of the grammar is proved where no Sync is early, and
-//! the converse where all requests are said first and no COPY takes data of the client. That both ends agree is proved without
-//! last words and Terminate, and without data that a server drops.
+//! the converse where each request is said once the one before is answered, or where all are said first and no COPY takes data of
+//! the client. That both ends agree is proved without last words and Terminate, and without data that a server drops.
 #![tactic(auto)]
 
 mod answer;
