@@ -21,7 +21,7 @@
 //! # What is left out
 //!
 //! - CopyFail of a COPY in both directions, on which PostgreSQL ends the session: it is [`Fault::NotRefusable`], as a request
-//!   there is [`Fault::InCopy`]
+//!   there is [`Fault::InCopy`].
 //! - CopyDone or CopyFail before the CopyInResponse is heard, while a request waits: it is [`Fault::NotInCopy`], though servers
 //!   take it.
 //! - After such an early Sync, another request than a Sync right behind the end of the data, and any while it isn't known
