@@ -3,7 +3,10 @@ pub mod BeginAnswer
 pub mod BeginRequest
 pub mod ClientFlow
 pub mod ClientMessage
+pub mod Codes
+pub mod Fault
 pub mod Faults
+pub mod FixedFlow
 pub mod Flow
 pub mod Grammar
 pub mod Logins

@@ -19,14 +19,14 @@ use std::collections::VecDeque;
 /// The flow of a client, from its first ReadyForQuery on.
 #[derive(Drop)]
 pub struct ClientFlow {
-    early: EarlySyncs,
+    pub early: EarlySyncs,
     /// The request that is being answered, but for a COPY with early Syncs.
-    first: Option<Request>,
+    pub first: Option<Request>,
     /// The requests behind it.
-    rest: VecDeque<Request>,
-    place: Place,
+    pub rest: VecDeque<Request>,
+    pub place: Place,
     /// How many requests were said.
-    said: u64,
+    pub said: u64,
     ghost in_order: { first ≡ None → rest.items ≡ [] },
 }
 

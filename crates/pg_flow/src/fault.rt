@@ -1,5 +1,10 @@
 //! Why a message can't be said, or can't come, now.
 
+ghost use Rattle.std.specs.Prelude.{Some};
+ghost use Rattle.pg_flow.specs.Fault.{fault_words};
+
+use std::fmt;
+
 /// Why a message can't be said, or can't come, now.
 #[derive(Clone, Copy, Debug, PartialEq, Eq)]
 pub enum Fault {
@@ -28,3 +33,28 @@ pub enum Fault {
     /// There is no memory for one more request that waits, or no number for it.
     Full,
 }
+
+impl fmt::Display for Fault {
+    ghost output = { λ fault. Some (fault_words fault) };
+
+    fn fmt<W: fmt::Write>(&self, f: &mut fmt::Formatter<W>) -> fmt::Result {
+        match *self {
+            Fault::Unknown => write!(f, "no message of that side begins so"),
+            Fault::NotReady => write!(f, "the login isn't over, and doesn't wait for this message"),
+            Fault::AfterEnd => write!(f, "the session is over"),
+            Fault::InCopy => write!(f, "the data of a COPY are to be given or refused first"),
+            Fault::NotInCopy => write!(f, "no COPY takes data"),
+            Fault::Unasked => write!(f, "no request waits for an answer"),
+            Fault::Busy => write!(f, "the server is answering another request"),
+            Fault::NotAnAnswer => write!(f, "the message doesn't answer the request that waits"),
+            Fault::BehindCopy => write!(
+                f,
+                "a COPY asks for data, and other requests were said behind it"
+            ),
+            Fault::SyncFirst => write!(f, "a Sync is to be said first"),
+            Fault::Full => write!(f, "there is no room for one more request"),
+        }
+    }
+}
+
+impl std::error::Error for Fault {}

@@ -25,16 +25,16 @@ use std::alloc::Global;
 /// by a server when it takes and gives it.
 #[derive(Drop)]
 pub struct Flow {
-    stage: Stage,
+    pub(crate) stage: Stage,
     /// The client has said that it ends the session.
-    left: bool,
-    role: Role,
-    status: Option<TransactionStatus>,
+    pub(crate) left: bool,
+    pub(crate) role: Role,
+    pub(crate) status: Option<TransactionStatus>,
 }
 
 /// Whose side of a session is followed.
 #[derive(Drop)]
-enum Role {
+pub(crate) enum Role {
     Client(ClientFlow),
     Server(ServerFlow),
 }

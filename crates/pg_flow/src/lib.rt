@@ -3,7 +3,7 @@
 //!
 //! A [`Flow`] takes the messages of both sides, each by its tag and the first bytes of its body, and neither reads nor writes
 //! anything. It numbers the requests, and says of each answer whose it is. A message that can't come now is a [`Fault`], and
-//! changes nothing.
+//! changes nothing. A [`FixedFlow`] is the same in a struct of fixed size, for C.
 //!
 //! # What is taken beside the documentation
 //!
@@ -42,8 +42,10 @@ mod begin_answer;
 mod begin_request;
 mod client_flow;
 mod client_message;
+mod codes;
 mod early_syncs;
 mod fault;
+mod fixed_flow;
 mod flow;
 mod heard;
 pub mod laws;
@@ -57,6 +59,7 @@ mod table;
 mod transaction_status;
 
 pub use fault::Fault;
+pub use fixed_flow::FixedFlow;
 pub use flow::Flow;
 pub use heard::Heard;
 pub use mode::Mode;

@@ -17,14 +17,14 @@ use crate::table::{Next, ends_ready, step};
 #[derive(Drop)]
 pub struct ServerFlow {
     /// The request that is being answered.
-    request: Option<Request>,
+    pub request: Option<Request>,
     /// Its number.
-    number: u64,
-    place: Place,
+    pub number: u64,
+    pub place: Place,
     /// Nothing was done since the last ReadyForQuery or error, so that a Sync can't fail.
-    quiet: bool,
+    pub quiet: bool,
     /// How many requests were taken.
-    taken: u64,
+    pub taken: u64,
 }
 
 impl ServerFlow {
