@@ -22,7 +22,7 @@ EXPORT = re.compile(
 
 GHOST_USE = re.compile(r"^ghost use [^;]*;$", re.MULTILINE)
 
-STRUCT = re.compile(r"^pub struct (Pgmsg\w+)", re.MULTILINE)
+STRUCT = re.compile(r"^pub (?:struct|type) (Pgmsg\w+)", re.MULTILINE)
 
 
 def laid_out():

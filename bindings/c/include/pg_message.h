@@ -19,7 +19,8 @@
  * holds a NUL is refused where it is to be written, with PGMSG_TEXT_HOLDS_NUL. `pgmsg_check_utf8` says whether
  * one is UTF-8; `pgmsg_read_severity` and `pgmsg_read_challenge` alone ask for that.
  *
- * No call needs memory. The words of a fault alone ask for some, and are left out where there is none. */
+ * No call needs memory but `pgmsg_flow_said` and `pgmsg_flow_heard`, while more than one request waits. The words
+ * of a fault ask for some, and are left out where there is none. */
 
 #ifndef PG_MESSAGE_H
 #define PG_MESSAGE_H
@@ -105,6 +106,31 @@ enum pgmsg_refusal {
     PGMSG_FRAME_TOO_LONG = -29,
     /* No row and no value of logical replication has this letter. */
     PGMSG_UNKNOWN_LETTER = -30,
+    /* The login isn't over, and doesn't wait for this message. */
+    PGMSG_NOT_READY = -31,
+    /* The client has said that it ends the session, or the server has. */
+    PGMSG_AFTER_END = -32,
+    /* The data of a COPY are to be given or refused first. */
+    PGMSG_IN_COPY = -33,
+    /* No COPY takes data. */
+    PGMSG_NOT_IN_COPY = -34,
+    /* No request waits for an answer. */
+    PGMSG_UNASKED = -35,
+    /* A server is done with no request before this one. */
+    PGMSG_BUSY = -36,
+    /* A message doesn't answer the request that waits. */
+    PGMSG_NOT_AN_ANSWER = -37,
+    /* A COPY asks for data, and other requests were said behind it. */
+    PGMSG_BEHIND_COPY = -38,
+    /* It can't be known whether the server passes over a request: a Sync is to be said first. */
+    PGMSG_SYNC_FIRST = -39,
+    /* No more requests may wait, or no memory was there for those that do. */
+    PGMSG_FLOW_FULL = -40,
+};
+
+enum {
+    /* The greatest length of a first message that PostgreSQL's servers take. */
+    PGMSG_MAX_FIRST_LENGTH = 10004,
 };
 
 /* The kinds of a first message. */
@@ -119,9 +145,37 @@ enum pgmsg_first_kind {
     PGMSG_FIRST_GSS_ENC_REQUEST = 3,
 };
 
-enum {
-    /* The greatest length of a first message that PostgreSQL's servers take. */
-    PGMSG_MAX_FIRST_LENGTH = 10004,
+/* What a session waits for. */
+enum pgmsg_mode_kind {
+    /* The login isn't over. */
+    PGMSG_MODE_LOGIN = 0,
+    /* No request waits. */
+    PGMSG_MODE_IDLE = 1,
+    /* A request waits for its answer. */
+    PGMSG_MODE_BUSY = 2,
+    /* The server takes data of a COPY. */
+    PGMSG_MODE_COPY_IN = 3,
+    /* The server gives data of a COPY. */
+    PGMSG_MODE_COPY_OUT = 4,
+    /* No request waits, and after an error the server passes over each but a Sync. */
+    PGMSG_MODE_SKIPPING = 5,
+    /* Nothing may be asked any more. */
+    PGMSG_MODE_ENDED = 6,
+};
+
+/* What a message of a server answers. */
+enum pgmsg_heard_kind {
+    /* A message of a server answers no request: a notice, a notification or a setting. */
+    PGMSG_HEARD_BY_ITSELF = 0,
+    /* It answers a request. */
+    PGMSG_HEARD_ANSWER = 1,
+    /* It is a ReadyForQuery for one of several Syncs, some of which were said before the end of a
+     * COPY's data. */
+    PGMSG_HEARD_GROUP = 2,
+    /* It belongs to the login. */
+    PGMSG_HEARD_LOGIN = 3,
+    /* It is a server's last words. */
+    PGMSG_HEARD_END = 4,
 };
 
 /* The tags of messages from a server. */
@@ -625,6 +679,40 @@ typedef struct {
     size_t length;
 } pgmsg_passage;
 
+/* A session, as its client or its server follows it: begin by `pgmsg_flow_client` or
+ * `pgmsg_flow_server`. `mode` is one of PGMSG_MODE_LOGIN and those after it; `status` is the letter
+ * of the last ReadyForQuery, 0 before the first; `count` is how many requests were said, whose
+ * numbers begin with 0, and `first` the number of the first that waits. What follows them is the
+ * library's. The struct may be copied. */
+typedef struct {
+    uint8_t mode;
+    uint8_t status;
+    bool has_left;
+    bool is_server;
+    uint64_t first;
+    uint64_t count;
+    uint8_t stage;
+    uint8_t place;
+    uint8_t request;
+    uint8_t early;
+    bool skips;
+    bool is_quiet;
+    uint64_t group;
+    uint64_t least;
+    uint64_t more;
+    size_t behind;
+    uint8_t requests[1024];
+} pgmsg_flow;
+
+/* Which request a message of a server answers: the one of the number `first`, or one of the Syncs
+ * from `first` to `last`; `is_last` says that nothing more comes for it. Where it answers none,
+ * they are 0 and false. */
+typedef struct {
+    uint64_t first;
+    uint64_t last;
+    bool is_last;
+} pgmsg_heard;
+
 /* Why a call refused, by the number below 0 that it returned, in a few words that last as long as
  * the program; those of its fault say more. They are "no error" for 0 and above, and "unknown
  * error" for a number that no call returns. */
@@ -1060,6 +1148,30 @@ int32_t pgmsg_relay_next(pgmsg_relay *relay, const uint8_t wanted[256], const ui
  * where they aren't. */
 int32_t pgmsg_check_frames(const uint8_t *bytes, size_t bytes_len, bool *is_first,
     pgmsg_fault *fault);
+
+/* Begins to follow the session of a client that has said nothing yet. */
+void pgmsg_flow_client(pgmsg_flow *flow);
+
+/* Begins to follow the session of a server that has taken nothing yet. */
+void pgmsg_flow_server(pgmsg_flow *flow);
+
+/* Takes a message of the client, as a client before the message is sent and a server when it has
+ * come: 1 where it is a request, and its `number`; 0 where it is none. A message without a tag has
+ * the tag 0, and its body begins with its code. Six bytes of a body are enough. Refused where the
+ * message can't come now, which changes nothing, and with PGMSG_FLOW_FULL where 1025 requests wait
+ * or no memory is there. */
+int32_t pgmsg_flow_said(pgmsg_flow *flow, uint8_t tag, const uint8_t *body, size_t body_len,
+    uint64_t *number, pgmsg_fault *fault);
+
+/* Takes a message of the server, as a client when it has come and a server before the message is
+ * sent, and gives which request it answers: PGMSG_HEARD_ANSWER, PGMSG_HEARD_GROUP, or another of
+ * these numbers where it answers none. The byte that answers a request for encryption is a tag,
+ * with no body. Four bytes of a body are enough, and of a run of DataRow the first. Refused where
+ * the message can't come now, which changes nothing: a client closes the connection then. Refused
+ * too with PGMSG_FLOW_FULL where no memory is there, which is needed while more than one request
+ * waits. */
+int32_t pgmsg_flow_heard(pgmsg_flow *flow, uint8_t tag, const uint8_t *body, size_t body_len,
+    pgmsg_heard *heard, pgmsg_fault *fault);
 
 #ifdef __cplusplus
 }

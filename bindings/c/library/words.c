@@ -33,6 +33,16 @@ static const char *const refusals[] = {
     [-PGMSG_NOT_FRAMES] = "not a run of whole messages",
     [-PGMSG_FRAME_TOO_LONG] = "message is longer than is taken whole",
     [-PGMSG_UNKNOWN_LETTER] = "unknown letter of a row or a value",
+    [-PGMSG_NOT_READY] = "the login doesn't wait for this message",
+    [-PGMSG_AFTER_END] = "the session is over",
+    [-PGMSG_IN_COPY] = "the data of a COPY are due",
+    [-PGMSG_NOT_IN_COPY] = "no COPY takes data",
+    [-PGMSG_UNASKED] = "no request waits for an answer",
+    [-PGMSG_BUSY] = "another request is being answered",
+    [-PGMSG_NOT_AN_ANSWER] = "the message doesn't answer the request that waits",
+    [-PGMSG_BEHIND_COPY] = "requests were said behind a COPY that asks for data",
+    [-PGMSG_SYNC_FIRST] = "a Sync is due",
+    [-PGMSG_FLOW_FULL] = "too many requests wait",
 };
 
 /* Why a call refused, by the number below 0 that it returned, in a few words that last as long as the program; those

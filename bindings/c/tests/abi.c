@@ -33,6 +33,16 @@ SAME(PGMSG_TOO_MANY, -27);
 SAME(PGMSG_NOT_FRAMES, -28);
 SAME(PGMSG_FRAME_TOO_LONG, -29);
 SAME(PGMSG_UNKNOWN_LETTER, -30);
+SAME(PGMSG_NOT_READY, -31);
+SAME(PGMSG_AFTER_END, -32);
+SAME(PGMSG_IN_COPY, -33);
+SAME(PGMSG_NOT_IN_COPY, -34);
+SAME(PGMSG_UNASKED, -35);
+SAME(PGMSG_BUSY, -36);
+SAME(PGMSG_NOT_AN_ANSWER, -37);
+SAME(PGMSG_BEHIND_COPY, -38);
+SAME(PGMSG_SYNC_FIRST, -39);
+SAME(PGMSG_FLOW_FULL, -40);
 
 SAME(PGMSG_FIRST_STARTUP, 0);
 SAME(PGMSG_FIRST_CANCEL_REQUEST, 1);
@@ -105,6 +115,20 @@ SAME(PGMSG_TARGET_PORTAL, 'P');
 SAME(PGMSG_FORMAT_TEXT, 0);
 SAME(PGMSG_FORMAT_BINARY, 1);
 
+SAME(PGMSG_MODE_LOGIN, 0);
+SAME(PGMSG_MODE_IDLE, 1);
+SAME(PGMSG_MODE_BUSY, 2);
+SAME(PGMSG_MODE_COPY_IN, 3);
+SAME(PGMSG_MODE_COPY_OUT, 4);
+SAME(PGMSG_MODE_SKIPPING, 5);
+SAME(PGMSG_MODE_ENDED, 6);
+
+SAME(PGMSG_HEARD_BY_ITSELF, 0);
+SAME(PGMSG_HEARD_ANSWER, 1);
+SAME(PGMSG_HEARD_GROUP, 2);
+SAME(PGMSG_HEARD_LOGIN, 3);
+SAME(PGMSG_HEARD_END, 4);
+
 /* A struct, its size, and its fields, each with its offset. */
 #define LAYOUT(type, size, fields)     \
     void layout_of_##type(void);       \
@@ -165,3 +189,7 @@ LAYOUT(pgmsg_datum_text, 24, AT(kind, 0) AT(value, 8) AT(value_len, 16))
 LAYOUT(pgmsg_table_column_text, 32, AT(flags, 0) AT(name, 8) AT(name_len, 16) AT(type_id, 24) AT(type_modifier, 28))
 LAYOUT(pgmsg_datum, 24, AT(kind, 0) AT(value, 8))
 LAYOUT(pgmsg_table_column, 32, AT(flags, 0) AT(name, 8) AT(type_id, 24) AT(type_modifier, 28))
+LAYOUT(pgmsg_flow, 1088, AT(mode, 0) AT(status, 1) AT(has_left, 2) AT(is_server, 3) AT(first, 8) AT(count, 16) AT(stage, 24)
+       AT(place, 25) AT(request, 26) AT(early, 27) AT(skips, 28) AT(is_quiet, 29) AT(group, 32) AT(least, 40) AT(more, 48)
+       AT(behind, 56) AT(requests, 64))
+LAYOUT(pgmsg_heard, 24, AT(first, 0) AT(last, 8) AT(is_last, 16))

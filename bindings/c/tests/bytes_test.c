@@ -21,6 +21,7 @@ void with_zeros(struct tally *tally, size_t len, void (*test)(struct tally *tall
 static void (*const tests[])(struct tally *tally) = {
     test_put,    test_put_faults, test_read,          test_read_login,  test_client,  test_client_lists, test_faults,
     test_relay,  test_server,     test_server_faults, test_replication, test_logical, test_logical_put,
+    test_flow,
 };
 
 int main(void)

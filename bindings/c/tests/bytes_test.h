@@ -28,6 +28,7 @@ void test_read(struct tally *tally);
 void test_read_login(struct tally *tally);
 void test_client(struct tally *tally);
 void test_client_lists(struct tally *tally);
+void test_flow(struct tally *tally);
 void test_logical(struct tally *tally);
 void test_logical_put(struct tally *tally);
 void test_relay(struct tally *tally);

@@ -199,12 +199,16 @@ static void words_of_numbers(struct tally *tally)
         "values can't be counted", "secret key is too short or too long", "unknown code of a first message",
         "neither a statement nor a portal", "value length is below -1", "bytes follow the end of a message",
         "first message is too long", "more items than can be counted", "not a run of whole messages",
-        "message is longer than is taken whole", "unknown letter of a row or a value", "unknown error",
+        "message is longer than is taken whole", "unknown letter of a row or a value",
+        "the login doesn't wait for this message", "the session is over", "the data of a COPY are due", "no COPY takes data",
+        "no request waits for an answer", "another request is being answered",
+        "the message doesn't answer the request that waits", "requests were said behind a COPY that asks for data",
+        "a Sync is due", "too many requests wait", "unknown error",
     };
     int32_t count = sizeof words / sizeof words[0];
     for (int32_t i = 0; i < count; i++)
         CHECK(tally, strcmp(pgmsg_strerror(-1 - i), words[i]) == 0);
-    CHECK(tally, count == 1 - PGMSG_UNKNOWN_LETTER);
+    CHECK(tally, count == 1 - PGMSG_FLOW_FULL);
     CHECK(tally, strcmp(pgmsg_strerror(INT32_MIN), "unknown error") == 0);
     CHECK(tally, strcmp(pgmsg_strerror(0), "no error") == 0);
     CHECK(tally, strcmp(pgmsg_strerror(INT32_MAX), "no error") == 0);

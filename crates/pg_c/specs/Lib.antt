@@ -1,4 +1,5 @@
 pub mod Client
+pub mod Flow
 pub mod Place
 pub mod Put
 pub mod Read

@@ -6,6 +6,7 @@
 #![tactic(auto)]
 
 pub mod client;
+pub mod flow;
 pub mod place;
 pub mod put;
 pub mod read;

@@ -100,6 +100,36 @@ pub const FRAME_TOO_LONG: i32 = -29;
 /// No row and no value of logical replication has this letter.
 pub const UNKNOWN_LETTER: i32 = -30;
 
+/// The login isn't over, and doesn't wait for this message.
+pub const NOT_READY: i32 = -31;
+
+/// The client has said that it ends the session, or the server has.
+pub const AFTER_END: i32 = -32;
+
+/// The data of a COPY are to be given or refused first.
+pub const IN_COPY: i32 = -33;
+
+/// No COPY takes data.
+pub const NOT_IN_COPY: i32 = -34;
+
+/// No request waits for an answer.
+pub const UNASKED: i32 = -35;
+
+/// A server is done with no request before this one.
+pub const BUSY: i32 = -36;
+
+/// A message doesn't answer the request that waits.
+pub const NOT_AN_ANSWER: i32 = -37;
+
+/// A COPY asks for data, and other requests were said behind it.
+pub const BEHIND_COPY: i32 = -38;
+
+/// It can't be known whether the server passes over a request: a Sync is to be said first.
+pub const SYNC_FIRST: i32 = -39;
+
+/// No more requests may wait, or no memory was there for those that do.
+pub const FLOW_FULL: i32 = -40;
+
 /// What is wrong with bytes that were read. `number` is what the call returned. `at` is an offset
 /// in them, where the fault has one, else 0. `words` are `words_len` bytes of ASCII, none where
 /// there was no memory for them.
