@@ -4,6 +4,7 @@
 export ASAN_OPTIONS=exitcode=99 LSAN_OPTIONS=exitcode=98 UBSAN_OPTIONS=exitcode=97
 
 logged_in='R\0\0\0\10\0\0\0\0Z\0\0\0\5I'
+listens='C\0\0\0\13LISTEN\0'
 ready='Z\0\0\0\5I'
 waits_for_rows='G\0\0\0\11\0\0\1\0\0'
 
@@ -40,11 +41,11 @@ test_hostile_logins() {
     listen_to 'a web server' 'HTTP/1.1 400 Bad Request\r\n\r\n' 6 'too long'
     listen_to 'an unknown tag' 'v\0\0\0\4' 6 'unknown message type: 118'
     listen_to 'a length below 4' 'R\0\0\0\3' 6 'bad message length: 3'
-    listen_to 'a method of two bytes' 'R\0\0\0\6\0\0' 6 'expected 4 bytes'
+    listen_to 'a method of two bytes' 'R\0\0\0\6\0\0' 6 'type R may not come'
     listen_to 'an unknown method' 'R\0\0\0\10\0\0\0\7' 3 'authentication method: 7'
     listen_to 'a salt of two bytes' 'R\0\0\0\12\0\0\0\5\1\2' 6 'expected 4 bytes'
     listen_to 'ready before a login' "$ready" 6 'type Z may not come'
-    listen_to 'a status that is none' 'R\0\0\0\10\0\0\0\0Z\0\0\0\5Q' 6 'transaction status: 81'
+    listen_to 'a status that is none' 'R\0\0\0\10\0\0\0\0Z\0\0\0\5Q' 6 'type Z may not come'
     listen_to 'accepts twice' 'R\0\0\0\10\0\0\0\0R\0\0\0\10\0\0\0\0' 6 'type R may not come'
     listen_to 'asks for the password twice' 'R\0\0\0\14\0\0\0\5abcdR\0\0\0\10\0\0\0\3' 6 'type R may not come'
     listen_to 'an error without a field' 'E\0\0\0\5\0' 3 'no reason'
@@ -58,7 +59,7 @@ test_hostile_scram() {
     local offer='R\0\0\0\27\0\0\0\12SCRAM-SHA-256\0\0'
     listen_to 'no mechanism' 'R\0\0\0\11\0\0\0\12\0' 3 'no SCRAM-SHA-256'
     listen_to 'another mechanism' 'R\0\0\0\15\0\0\0\12ABC\0\0' 3 'no SCRAM-SHA-256'
-    listen_to 'accepts without a proof' "$offer"'R\0\0\0\10\0\0\0\0' 6 'knows the password'
+    listen_to 'accepts without a proof' "$offer"'R\0\0\0\10\0\0\0\0' 6 'type R may not come'
     listen_to 'a challenge before an offer' 'R\0\0\0\36\0\0\0\13r=abcdef,s=AQID,i=4096' 6 'may not come'
     listen_to 'the nonce of another' "$offer"'R\0\0\0\36\0\0\0\13r=abcdef,s=AQID,i=4096' 6 "client's"
     listen_to 'a challenge without a salt' "$offer"'R\0\0\0\20\0\0\0\13r=abcdef' 6 'salt'
@@ -72,9 +73,9 @@ test_hostile_sessions() {
     listen_to 'a channel without an end' "$logged_in"'A\0\0\0\12\0\0\0\1ab' 6 'expected NUL'
     listen_to 'a row' "$logged_in"'D\0\0\0\6\0\0' 6 'type D may not come'
     listen_to 'ready twice' "$logged_in$ready$ready" 6 'type Z may not come'
-    against "$logged_in${ready}A\0\0\0\16\0\0\0\7a\033\0b\n\0" "$programs/pg_listen" -n 1 channel
+    against "$logged_in$listens${ready}A\0\0\0\16\0\0\0\7a\033\0b\n\0" "$programs/pg_listen" -n 1 channel
     same 'a notification' "$status $output" $'0 a\\x1b\t7\tb\\n'
-    against "$logged_in${ready}A\0\0\0\21\0\0\0\7a\0\233\342\200\256\303\274\0" "$programs/pg_listen" -n 1 channel
+    against "$logged_in$listens${ready}A\0\0\0\21\0\0\0\7a\0\233\342\200\256\303\274\0" "$programs/pg_listen" -n 1 channel
     same 'a notification of bytes that a terminal obeys' "$status $output" $'0 a\t7\t\\x9b\\xe2\\x80\\xae\u00fc'
     same 'the session is ended' "$(tail -c 5 "$work/heard" | od -An -tx1 | tr -d ' ')" 5800000004
 }

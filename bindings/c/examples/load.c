@@ -13,24 +13,14 @@
 /* The bytes before the data of a CopyData, and the most data in one. */
 enum { HEAD = 5, BLOCK = 65536 };
 
-/* How far it is. */
-enum phase {
-    ASKED,   /* the query is sent, its answer not there */
-    SENDING, /* the server takes data */
-    ENDED,   /* a CopyDone is put */
-    STOPPED  /* by an error of the server, or a CopyFail is put */
-};
-
 struct load {
     struct connection *connection;
     int file;
     const char *file_name;
     off_t len; /* of the file when the load began */
-    enum phase phase;
     enum status status; /* of what stopped it */
     bool has_ended;     /* a CopyDone was put, also where an error came after it */
     bool is_stored;     /* the server says so */
-    bool is_ready;      /* the server is, for the next query */
     uint64_t rows;
 };
 
@@ -45,7 +35,6 @@ static void stop_reading(struct load *load, const char *reason)
 {
     static const char words[] = "the client can't read its file";
     load->status = complain(STATUS_LOCAL, "%s can't be read: %s", load->file_name, reason);
-    load->phase = STOPPED;
     PUT(load->connection,
         pgmsg_put_copy_fail((const uint8_t *)words, sizeof words - 1, SPARE(load->connection)));
 }
@@ -56,7 +45,6 @@ static void end_data(struct load *load)
         stop_reading(load, "it became shorter");
         return;
     }
-    load->phase = ENDED;
     load->has_ended = true;
     PUT(load->connection, pgmsg_put_no_body('c', SPARE(load->connection)));
 }
@@ -83,13 +71,12 @@ static enum status take_error(struct load *load, const struct message *message)
     report(message);
     if (load->status == STATUS_OK)
         load->status = STATUS_SERVER;
-    load->phase = STOPPED;
     return STATUS_OK;
 }
 
 static enum status take_count(struct load *load, const struct message *message)
 {
-    if (load->phase != ENDED)
+    if (!load->has_ended)
         return complain_of_message(message);
     pgmsg_command command;
     pgmsg_fault fault;
@@ -100,42 +87,42 @@ static enum status take_count(struct load *load, const struct message *message)
     return STATUS_OK;
 }
 
-static enum status take_ready(struct load *load, const struct message *message)
-{
-    if (load->phase != STOPPED && !load->is_stored)
-        return complain_of_message(message);
-    load->is_ready = true;
-    return check_ready(message);
-}
-
 /* Takes the server's word that it waits for data. */
-static enum status take_start(struct load *load, const struct message *message)
+static enum status take_start(const struct message *message)
 {
     pgmsg_copy_response response;
     pgmsg_fault fault;
     int16_t codes[1];
-    if (load->phase != ASKED)
-        return complain_of_message(message);
     if (pgmsg_read_copy_response(message->body, message->len, &response, codes, 1, &fault) < 0)
         return complain_of_fault(&fault);
     if (response.format != 0)
         return complain(STATUS_PROTOCOL, "the server waits for another format than text");
-    load->phase = SENDING;
     return STATUS_OK;
 }
 
 static enum status take(struct load *load, const struct message *message)
 {
     switch (message->tag) {
-    case 'G': return take_start(load, message);
+    case 'G': return take_start(message);
     case 'E': return take_error(load, message);
     case 'C': return take_count(load, message);
-    case 'Z': return take_ready(load, message);
+    case 'Z': return check_ready(message);
     case 'N': report(message); return STATUS_OK;
     case 'A':
     case 'S': return STATUS_OK;
     default: return complain_of_message(message);
     }
+}
+
+/* Whether the server takes data, and whether it is ready for the next query. */
+static bool is_sending(const struct load *load)
+{
+    return load->connection->flow.mode == PGMSG_MODE_COPY_IN;
+}
+
+static bool is_ready(const struct load *load)
+{
+    return load->connection->flow.mode == PGMSG_MODE_IDLE;
 }
 
 static enum status take_all(struct load *load)
@@ -146,7 +133,7 @@ static enum status take_all(struct load *load)
         if (status != STATUS_OK || message.tag == 0)
             return status;
         status = take(load, &message);
-        if (status != STATUS_OK || load->is_ready)
+        if (status != STATUS_OK || is_ready(load))
             return status;
     }
 }
@@ -157,7 +144,7 @@ static enum status step(struct load *load)
 {
     struct connection *connection = load->connection;
     bool has_output = connection_has_output(connection);
-    bool is_hungry = load->phase == SENDING && !has_output && !connection->is_gone;
+    bool is_hungry = is_sending(load) && !has_output && !connection->is_gone;
     struct pollfd ready[] = {
         {.fd = connection->socket, .events = has_output ? POLLIN | POLLOUT : POLLIN},
         {.fd = is_hungry ? load->file : -1, .events = POLLIN},
@@ -169,7 +156,7 @@ static enum status step(struct load *load)
         status = connection_read(connection);
     if (status == STATUS_OK)
         status = take_all(load);
-    if (status == STATUS_OK && ready[1].revents != 0 && load->phase == SENDING)
+    if (status == STATUS_OK && ready[1].revents != 0 && is_sending(load))
         status = read_block(load);
     if (status == STATUS_OK && connection_has_output(connection))
         connection_write(connection);
@@ -191,8 +178,10 @@ static void explain_break(const struct load *load)
 static enum status run(struct load *load)
 {
     /* Messages may have come with the end of the login. */
-    enum status status = take_all(load);
-    while (status == STATUS_OK && !load->is_ready) {
+    enum status status = load->connection->failure;
+    if (status == STATUS_OK)
+        status = take_all(load);
+    while (status == STATUS_OK && !is_ready(load)) {
         status = load->connection->failure;
         if (status == STATUS_OK)
             status = step(load);
@@ -217,7 +206,7 @@ enum status load_file(struct connection *connection, const struct buffer *query,
     struct load load = {.connection = connection, .file = file, .file_name = file_name, .len = length_of(file)};
     PUT(connection, pgmsg_put_query(query->bytes + query->start, query->end - query->start, SPARE(connection)));
     enum status status = run(&load);
-    if (load.is_ready)
+    if (is_ready(&load))
         connection_terminate(connection);
     return status == STATUS_OK ? print_count(&load) : status;
 }

@@ -17,14 +17,14 @@ static const char usage[] =
     "a terminal obeys \\x and two hexadecimal digits. Ends after COUNT lines.\n";
 
 struct listener {
-    bool is_listening; /* the server has said so */
     bool is_limited;
     unsigned long left; /* lines, where they are limited */
 };
 
-static bool is_done(const struct listener *listener)
+/* The server has said that it listens, and all lines are printed. */
+static bool is_done(const struct listener *listener, const struct connection *connection)
 {
-    return listener->is_listening && listener->is_limited && listener->left == 0;
+    return connection->flow.mode == PGMSG_MODE_IDLE && listener->is_limited && listener->left == 0;
 }
 
 static enum status take_notification(struct listener *listener, const struct message *message)
@@ -46,11 +46,8 @@ static enum status take_notification(struct listener *listener, const struct mes
     return STATUS_OK;
 }
 
-static enum status take_ready(struct listener *listener, const struct message *message)
+static enum status take_ready(const struct message *message)
 {
-    if (listener->is_listening)
-        return complain_of_message(message);
-    listener->is_listening = true;
     fputs("listening\n", stderr);
     return check_ready(message);
 }
@@ -61,11 +58,8 @@ static enum status take(struct listener *listener, const struct message *message
     case 'A': return take_notification(listener, message);
     case 'E': report(message); return STATUS_SERVER;
     case 'N': report(message); return STATUS_OK;
-    case 'Z': return take_ready(listener, message);
+    case 'Z': return take_ready(message);
     case 'C':
-        if (!listener->is_listening)
-            return STATUS_OK;
-        return complain_of_message(message);
     case 'S': return STATUS_OK;
     default: return complain_of_message(message);
     }
@@ -99,7 +93,7 @@ static enum status run(struct listener *listener, struct options *options, char 
     if (status != STATUS_OK)
         return status;
     status = send_listen(&connection, channels);
-    while (status == STATUS_OK && !is_done(listener)) {
+    while (status == STATUS_OK && !is_done(listener, &connection)) {
         struct message message;
         status = connection_receive(&connection, &message);
         if (status == STATUS_OK)

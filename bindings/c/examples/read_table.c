@@ -30,9 +30,12 @@ static enum status print_row(const struct message *row)
 /* Takes what answers a query, up to the ReadyForQuery. */
 static enum status print_rows(struct connection *connection)
 {
-    struct message message = {0};
+    struct message message;
     enum status status = STATUS_OK;
-    while (message.tag != 'Z' && status == STATUS_OK && (status = connection_receive(connection, &message)) == STATUS_OK)
+    while (status == STATUS_OK && connection->flow.mode == PGMSG_MODE_BUSY) {
+        status = connection_receive(connection, &message);
+        if (status != STATUS_OK)
+            return status;
         switch (message.tag) {
         case 'D': status = print_row(&message); break;
         case 'E': report(&message); return STATUS_SERVER;
@@ -40,6 +43,7 @@ static enum status print_rows(struct connection *connection)
         case 'A': case 'C': case 'S': case 'T': case 'Z': break;
         default: status = complain_of_message(&message);
         }
+    }
     return status;
 }
 

@@ -23,6 +23,21 @@ static bool is_temporary(int failure)
     return failure == EAGAIN || failure == EWOULDBLOCK || failure == EINTR;
 }
 
+/* Whether a message may be sent now. */
+static bool may_send(struct connection *connection, const uint8_t *message, size_t len)
+{
+    size_t head = connection->has_begun ? 5 : 4;
+    uint8_t tag = connection->has_begun ? message[0] : 0;
+    uint64_t number;
+    pgmsg_fault fault;
+    if (pgmsg_flow_said(&connection->flow, tag, message + head, len - head, &number, &fault) < 0) {
+        connection->failure = complain_of_fault(&fault);
+        return false;
+    }
+    connection->has_begun = true;
+    return true;
+}
+
 bool connection_put(struct connection *connection, ptrdiff_t length)
 {
     struct buffer *output = &connection->output;
@@ -41,7 +56,8 @@ bool connection_put(struct connection *connection, ptrdiff_t length)
         connection->failure = complain_of_memory();
         return false;
     }
-    output->end += (size_t)length;
+    if (may_send(connection, output->bytes + output->end, (size_t)length))
+        output->end += (size_t)length;
     return false;
 }
 
@@ -91,6 +107,19 @@ enum status connection_read(struct connection *connection)
     return STATUS_OK;
 }
 
+/* Takes a message that came, if it may come now. Rows that come one after the other are one step. */
+static enum status hear(struct connection *connection, const struct message *message)
+{
+    pgmsg_heard heard;
+    pgmsg_fault fault;
+    if (message->tag == 'D' && connection->last_tag == 'D')
+        return STATUS_OK;
+    if (pgmsg_flow_heard(&connection->flow, message->tag, message->body, message->len, &heard, &fault) < 0)
+        return complain_of_message(message);
+    connection->last_tag = message->tag;
+    return STATUS_OK;
+}
+
 enum status connection_next(struct connection *connection, struct message *message)
 {
     struct buffer *input = &connection->input;
@@ -109,7 +138,7 @@ enum status connection_next(struct connection *connection, struct message *messa
         return STATUS_OK;
     *message = (struct message){.tag = frame.tag, .body = front + frame.body.at, .len = frame.body.len};
     input->start += frame.length;
-    return STATUS_OK;
+    return hear(connection, message);
 }
 
 enum status connection_receive(struct connection *connection, struct message *message)
@@ -157,6 +186,7 @@ enum status connection_open(struct connection *connection, const struct options 
 {
     *connection = (struct connection){.socket = -1};
     enum status status = STATUS_OK;
+    pgmsg_flow_client(&connection->flow);
     open_standard_descriptors();
     if (!buffer_make(&connection->output, OUTPUT_ROOM) || !buffer_make(&connection->input, INPUT_ROOM))
         status = complain_of_memory();

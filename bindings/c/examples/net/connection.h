@@ -10,6 +10,9 @@ struct connection {
     int socket;
     bool is_gone;        /* nothing can be written any more */
     enum status failure; /* of a message that was put */
+    bool has_begun;      /* the first message, which has no tag, was put */
+    uint8_t last_tag;    /* of the messages that came */
+    pgmsg_flow flow;     /* which message may come next */
     struct buffer output;
     struct buffer input;
 };
@@ -25,7 +28,8 @@ struct connection {
     do {                      \
     } while (connection_put((connection), (call)))
 
-/* Takes the answer of a pgmsg_put_* call; whether the call is to be made again. */
+/* Takes the answer of a pgmsg_put_* call; whether the call is to be made again. A message that may not come now isn't
+ * sent. */
 bool connection_put(struct connection *connection, ptrdiff_t length);
 
 /* Connects, and logs in. */
@@ -53,7 +57,7 @@ enum status connection_flush(struct connection *connection);
 /* Reads once: what is there, else what comes next. */
 enum status connection_read(struct connection *connection);
 
-/* Takes the next message out of what was read. Its tag is 0 where none is whole. */
+/* Takes the next message out of what was read, where it may come now. Its tag is 0 where none is whole. */
 enum status connection_next(struct connection *connection, struct message *message);
 
 /* Takes the next message, and waits for it. */

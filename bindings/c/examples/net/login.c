@@ -19,9 +19,6 @@ struct login {
     struct connection *connection;
     const struct options *options;
     struct scram scram;
-    bool has_answered; /* a question for the password, of which there is one */
-    bool is_accepted;
-    bool is_ready;
 };
 
 static pgmsg_setting setting(const char *name, const char *value)
@@ -69,13 +66,10 @@ static enum status send_md5(struct login *login, const pgmsg_authentication *ask
     return connection_flush(login->connection);
 }
 
-/* Answers with the password. A server that asks once more, in another way, may be after the password. */
-static enum status answer_once(struct login *login, const pgmsg_authentication *asked,
-                               const struct message *message)
+/* Answers with the password, for which the connection lets a server ask once. */
+static enum status answer_with_password(struct login *login, const pgmsg_authentication *asked,
+                                        const struct message *message)
 {
-    if (login->has_answered)
-        return complain_of_message(message);
-    login->has_answered = true;
     if (login->options->password == NULL)
         return complain(STATUS_REFUSED, "the server asks for a password: set PGPASSWORD");
     switch (asked->method) {
@@ -85,27 +79,17 @@ static enum status answer_once(struct login *login, const pgmsg_authentication *
     }
 }
 
-static enum status accept_login(struct login *login)
-{
-    if (scram_is_open(&login->scram))
-        return complain(STATUS_PROTOCOL, "the server didn't show that it knows the password");
-    login->is_accepted = true;
-    return STATUS_OK;
-}
-
 static enum status answer(struct login *login, const struct message *message)
 {
     pgmsg_authentication asked;
     pgmsg_fault fault;
     if (pgmsg_read_authentication(message->body, message->len, &asked, &fault) < 0)
         return complain_of_fault(&fault);
-    if (login->is_accepted)
-        return complain_of_message(message);
     switch (asked.method) {
-    case METHOD_ACCEPTED: return accept_login(login);
+    case METHOD_ACCEPTED: return STATUS_OK;
     case METHOD_CLEAR_TEXT:
     case METHOD_MD5:
-    case METHOD_SASL: return answer_once(login, &asked, message);
+    case METHOD_SASL: return answer_with_password(login, &asked, message);
     case METHOD_SASL_CHALLENGE:
         return scram_answer(&login->scram, login->connection, login->options->password, message);
     case METHOD_SASL_VERIFIER: return scram_verify(&login->scram, message);
@@ -119,14 +103,8 @@ static enum status take(struct login *login, const struct message *message)
     case 'R': return answer(login, message);
     case 'E': report(message); return STATUS_REFUSED;
     case 'N': report(message); return STATUS_OK;
-    case 'K':
-    case 'S': return STATUS_OK;
-    case 'Z':
-        if (!login->is_accepted)
-            return complain_of_message(message);
-        login->is_ready = true;
-        return check_ready(message);
-    default: return complain_of_message(message);
+    case 'Z': return check_ready(message);
+    default: return STATUS_OK;
     }
 }
 
@@ -134,7 +112,7 @@ enum status log_in(struct connection *connection, const struct options *options)
 {
     struct login login = {.connection = connection, .options = options};
     enum status status = send_startup(connection, options);
-    while (status == STATUS_OK && !login.is_ready) {
+    while (status == STATUS_OK && connection->flow.mode == PGMSG_MODE_LOGIN) {
         struct message message;
         status = connection_receive(connection, &message);
         if (status == STATUS_OK)

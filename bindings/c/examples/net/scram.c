@@ -34,8 +34,6 @@ static bool is_offered(const struct message *message)
 enum status scram_begin(struct scram *scram, struct connection *connection, const struct message *message)
 {
     char first[FIRST_ROOM];
-    if (scram->stage != SCRAM_NONE)
-        return complain_of_message(message);
     if (!is_offered(message))
         return complain(STATUS_REFUSED, "the server offers no SCRAM-SHA-256");
     enum status status = make_nonce(scram->nonce);
@@ -44,7 +42,6 @@ enum status scram_begin(struct scram *scram, struct connection *connection, cons
     int len = snprintf(first, sizeof first, "n,," FIRST_BARE, scram->nonce);
     PUT(connection, pgmsg_put_sasl_initial((const uint8_t *)wanted, sizeof wanted - 1, true, (const uint8_t *)first, (size_t)len,
                                            SPARE(connection)));
-    scram->stage = SCRAM_BEGUN;
     return connection_flush(connection);
 }
 
@@ -103,8 +100,6 @@ enum status scram_answer(struct scram *scram, struct connection *connection, con
     struct challenge challenge;
     struct scram_keys keys;
     char final[FINAL_ROOM], proof[SHA_BASE64_ROOM];
-    if (scram->stage != SCRAM_BEGUN)
-        return complain_of_message(message);
     enum status status = read_challenge(scram, message, &challenge);
     if (status != STATUS_OK)
         return status;
@@ -117,7 +112,6 @@ enum status scram_answer(struct scram *scram, struct connection *connection, con
     base64_of(keys.proof, proof);
     int len = snprintf(final, sizeof final, "c=biws,r=%s,p=%s", challenge.nonce, proof);
     PUT(connection, pgmsg_put_sasl_response((const uint8_t *)final, (size_t)len, SPARE(connection)));
-    scram->stage = SCRAM_ANSWERED;
     return connection_flush(connection);
 }
 
@@ -125,18 +119,10 @@ enum status scram_verify(struct scram *scram, const struct message *message)
 {
     uint8_t verifier[SHA_LENGTH];
     pgmsg_fault fault;
-    if (scram->stage != SCRAM_ANSWERED)
-        return complain_of_message(message);
     ptrdiff_t len = pgmsg_read_verifier(message->body, message->len, verifier, sizeof verifier, &fault);
     if (len < 0)
         return complain_of_fault(&fault);
     if (len != SHA_LENGTH || !are_equal(verifier, scram->signature))
         return complain(STATUS_PROTOCOL, "the server doesn't know the password: it is another one");
-    scram->stage = SCRAM_VERIFIED;
     return STATUS_OK;
-}
-
-bool scram_is_open(const struct scram *scram)
-{
-    return scram->stage == SCRAM_BEGUN || scram->stage == SCRAM_ANSWERED;
 }

@@ -5,10 +5,8 @@
 #include "connection.h"
 #include "secrets.h"
 
-enum scram_stage { SCRAM_NONE, SCRAM_BEGUN, SCRAM_ANSWERED, SCRAM_VERIFIED };
-
+/* The connection sees to it that what the server says comes in order. */
 struct scram {
-    enum scram_stage stage;
     char nonce[NONCE_ROOM];
     uint8_t signature[SHA_LENGTH]; /* what the server is to show */
 };
@@ -22,8 +20,5 @@ enum status scram_answer(struct scram *scram, struct connection *connection, con
 
 /* Takes the server's signature. */
 enum status scram_verify(struct scram *scram, const struct message *message);
-
-/* Whether the exchange has begun, and the server hasn't shown its signature. */
-bool scram_is_open(const struct scram *scram);
 
 #endif
