@@ -107,7 +107,7 @@ test_forged_changes() {
     for words in 'ready follows' 'follows' 'offer ready follows' 'offer ok ready follows' 'offer challenge ready follows'; do
         test_forged_login "$1" "$words" 'START_REPLICATION|known to both'
     done
-    against_words "$1" 'notice version ok ready follows'
+    against_words "$1" 'version ok notice ready follows'
     expect "the server stops, $1" 1 'the server closed the connection'
     same "the server stops, $1: changes" "$(grep -o forged "$work/changes") $(grep -c commit "$work/changes")" 'forged 1'
     [[ $(heard) == *$confirms* ]] || bad "the server stops, $1: no position is confirmed" "$(heard)"
@@ -134,6 +134,6 @@ test_forged() {
     done
     for client in "${followers[@]}"; do
         test_forged_changes "$client"
-        test_orders "$client" error 'notice version ok error'
+        test_orders "$client" error 'version ok notice error'
     done
 }

@@ -8,32 +8,31 @@ import os
 import socket
 import sys
 
-from pgmsg import ClientStream, ErrorResponse, Login, Query, ReadyForQuery, StartupMessage, Terminate
+from pgmsg import Connection, ErrorResponse, Login, Query, ReadyForQuery, StartupMessage, Terminate
 
 
 def connect(host, port):
     if not host.startswith("/"):
         return socket.create_connection((host, int(port)))
-    connection = socket.socket(socket.AF_UNIX)
-    connection.connect(f"{host}/.s.PGSQL.{port}")
-    return connection
+    server = socket.socket(socket.AF_UNIX)
+    server.connect(f"{host}/.s.PGSQL.{port}")
+    return server
 
 
 host, port, user, database, table = sys.argv[1:]
-login, stream = Login(user, os.environ.get("PGPASSWORD", "")), ClientStream()
+login, connection = Login(user, os.environ.get("PGPASSWORD", "")), Connection()
 to_ask = [Query(f"TABLE {table}"), Terminate()]
-with connect(host, port) as connection:
-    connection.sendall(StartupMessage({"user": user, "database": database, "client_encoding": "UTF8"}).write())
-    while data := connection.recv(1 << 16):
-        stream.feed(data)
-        for message in stream.runs():
+with connect(host, port) as server:
+    server.sendall(connection.send(StartupMessage({"user": user, "database": database, "client_encoding": "UTF8"})))
+    while data := server.recv(1 << 16):
+        for message, _ in connection.receive(data):
             if answer := login.answer(message):
-                connection.sendall(answer.write())
+                server.sendall(connection.send(answer))
             match message:
                 case list():
                     print(*message, sep="\n")
                 case ReadyForQuery():
-                    connection.sendall(to_ask.pop(0).write())
+                    server.sendall(connection.send(to_ask.pop(0)))
                 case ErrorResponse():
                     sys.exit(str(message))
 if to_ask:

@@ -4,30 +4,29 @@ import asyncio
 import os
 import sys
 
-from pgmsg import ClientStream, ErrorResponse, Login, Query, ReadyForQuery, StartupMessage, Terminate
+from pgmsg import Connection, ErrorResponse, Login, Query, ReadyForQuery, StartupMessage, Terminate
 
 
 class Reader(asyncio.Protocol):
     def __init__(self, user, database, query):
-        self.stream, self.login = ClientStream(), Login(user, os.environ.get("PGPASSWORD", ""))
+        self.connection, self.login = Connection(), Login(user, os.environ.get("PGPASSWORD", ""))
         self.to_send = [StartupMessage({"user": user, "database": database, "client_encoding": "UTF8"}), Query(query), Terminate()]
         self.error, self.rows = EOFError("the server closed the connection"), []
         self.result = asyncio.get_running_loop().create_future()
 
     def connection_made(self, transport):
         self.transport = transport
-        transport.write(self.to_send.pop(0).write())
+        transport.write(self.connection.send(self.to_send.pop(0)))
 
     def data_received(self, data):
-        self.stream.feed(data)
-        for message in self.stream.runs():
+        for message, _ in self.connection.receive(data):
             if answer := self.login.answer(message):
-                self.transport.write(answer.write())
+                self.transport.write(self.connection.send(answer))
             match message:
                 case list():
                     self.rows += message
                 case ReadyForQuery():
-                    self.transport.write(self.to_send.pop(0).write())
+                    self.transport.write(self.connection.send(self.to_send.pop(0)))
                 case ErrorResponse():
                     self.error = RuntimeError(message)
                     return self.transport.close()

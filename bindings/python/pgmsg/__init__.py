@@ -32,8 +32,10 @@ from .authentication import (
     Authentication, AuthenticationCleartextPassword, AuthenticationGSS, AuthenticationGSSContinue,
     AuthenticationKerberosV5, AuthenticationMD5Password, AuthenticationOk, AuthenticationSASL,
     AuthenticationSASLContinue, AuthenticationSASLFinal, AuthenticationSCMCredential, AuthenticationSSPI, Challenge)
+from .connection import Connection, Event, Request, ServerConnection
 from .copying import CopyBothResponse, CopyData, CopyDone, CopyFail, CopyInResponse, CopyOutResponse, copy_head
 from .fault import Code, Fault
+from .flow import Flow, Kind, Mode, Whose
 from .login import Login
 from .message import BackendMessage, Frame, FrontendMessage, Message
 from .notices import ErrorResponse, NoticeResponse, Severity, printable
@@ -58,13 +60,13 @@ __all__ = [
     "AuthenticationSASL", "AuthenticationSASLContinue", "AuthenticationSASLFinal",
     "AuthenticationSCMCredential", "AuthenticationSSPI",
     "BackendKeyData", "BackendMessage", "Bind", "BindComplete", "CancelRequest", "Challenge", "ClientStream", "Close",
-    "CloseComplete", "Code", "Column", "CommandComplete", "CopyBothResponse", "CopyData", "CopyDone", "CopyFail",
-    "CopyInResponse", "CopyOutResponse", "DataRow", "Describe", "EmptyQueryResponse", "ErrorResponse", "Execute",
-    "Fault", "FirstMessage", "Flush", "Frame", "FrontendMessage", "FunctionCall", "FunctionCallResponse",
-    "GSSENCRequest", "GSSResponse", "MAX_FIRST_LENGTH", "MAX_LENGTH", "Login", "Message", "NegotiateProtocolVersion", "NoData",
+    "CloseComplete", "Code", "Column", "CommandComplete", "Connection", "CopyBothResponse", "CopyData", "CopyDone", "CopyFail",
+    "CopyInResponse", "CopyOutResponse", "DataRow", "Describe", "EmptyQueryResponse", "ErrorResponse", "Event", "Execute",
+    "Fault", "FirstMessage", "Flow", "Flush", "Frame", "FrontendMessage", "FunctionCall", "FunctionCallResponse",
+    "GSSENCRequest", "GSSResponse", "Kind", "MAX_FIRST_LENGTH", "MAX_LENGTH", "Login", "Message", "Mode", "NegotiateProtocolVersion", "NoData",
     "NoticeResponse", "NotificationResponse", "ParameterDescription", "ParameterStatus", "Parse", "ParseComplete",
-    "Part", "PasswordMessage", "Place", "PortalSuspended", "Query", "ReadyForQuery", "Relay", "RowDescription",
-    "SASLInitialResponse", "SASLResponse", "SSLRequest", "Scram", "ServerStream", "Severity", "StartupMessage",
-    "Stream", "Sync", "Target", "Terminate", "TransactionStatus", "WholeFrame", "check_frames", "copy_head",
+    "Part", "PasswordMessage", "Place", "PortalSuspended", "Query", "ReadyForQuery", "Relay", "Request", "RowDescription",
+    "SASLInitialResponse", "SASLResponse", "SSLRequest", "Scram", "ServerConnection", "ServerStream", "Severity", "StartupMessage",
+    "Stream", "Sync", "Target", "Terminate", "TransactionStatus", "WholeFrame", "Whose", "check_frames", "copy_head",
     "executions", "printable", "read_backend", "read_frontend", "write",
 ]

@@ -7,25 +7,16 @@ from typing import Any
 from .authentication import (
     Authentication, AuthenticationCleartextPassword, AuthenticationMD5Password, AuthenticationOk, AuthenticationSASL,
     AuthenticationSASLContinue, AuthenticationSASLFinal)
+from .flow import HEADER, Flow, Mode, parts
 from .message import BackendMessage, FrontendMessage, Text
-from .notices import ErrorResponse, NoticeResponse
 from .passwords import PasswordMessage
 from .scram import MECHANISM, Scram
-from .session import NegotiateProtocolVersion
+from .session import ReadyForQuery
 
-# What a server may ask for first, and after each of these: it asks for a password once.
-FIRST = AuthenticationOk, AuthenticationCleartextPassword, AuthenticationMD5Password, AuthenticationSASL
-NEXT: dict[type[Authentication], tuple[type[Authentication], ...]] = {
-    AuthenticationOk: (),
-    AuthenticationCleartextPassword: (AuthenticationOk,),
-    AuthenticationMD5Password: (AuthenticationOk,),
-    AuthenticationSASL: (AuthenticationSASLContinue,),
-    AuthenticationSASLContinue: (AuthenticationSASLFinal,),
-    AuthenticationSASLFinal: (AuthenticationOk,),
-}
+# The body of the StartupMessage with which a login begins, as far as it is looked at.
+STARTUP = b"\0\3\0\0"
 
-# What else may come before the server accepts the login.
-BESIDE = ErrorResponse, NoticeResponse, NegotiateProtocolVersion
+ROW = ord("D")
 
 
 class Login:
@@ -37,29 +28,31 @@ class Login:
     def __init__(self, user: Text, password: Text) -> None:
         self._user, self._password = user, password
         self._scram = Scram(password)
-        self._due: tuple[type[Authentication], ...] = FIRST
+        self._flow = Flow()
+        self._flow.said(None, STARTUP)
 
     def answer(self, message: BackendMessage | list[Any]) -> FrontendMessage | None:
         """What to send, None where nothing is due. It has to see each message of the server, also the rows of `runs`.
 
-        A ValueError says that the server asks for something else or once more, doesn't prove that it knows the password, or
-        goes on before it has accepted the login.
+        A Fault says that the message may not come now: the server asks once more, goes on before it has accepted the login, or
+        accepts it before it has proved that it knows the password. A ValueError says that the server asks for something
+        else, or doesn't know the password. Close the connection after either.
         """
-        if isinstance(message, Authentication):
-            return self._answer(message)
-        if self._due and not isinstance(message, BESIDE):
-            raise ValueError(f"{type(message).__name__} comes before the login is accepted")
-        return None
-
-    def _answer(self, asked: Authentication) -> FrontendMessage | None:
-        if not isinstance(asked, self._due):
-            raise ValueError(f"{type(asked).__name__} is no login that is known here, or comes out of turn")
-        answer = self._answer_due(asked)
-        self._due = NEXT[type(asked)]
+        if self._flow.mode is not Mode.LOGIN and not isinstance(message, Authentication):
+            return None
+        state = self._flow.state
+        try:
+            self._flow.heard(ROW if isinstance(message, list) else message.TAG, beginning(message))
+            answer = self._answer(message)
+            if answer is not None:
+                self._flow.said(*parts(answer, answer.write()))
+        except BaseException:
+            self._flow.state = state
+            raise
         return answer
 
-    def _answer_due(self, asked: Authentication) -> FrontendMessage | None:
-        match asked:
+    def _answer(self, message: BackendMessage | list[Any]) -> FrontendMessage | None:
+        match message:
             case AuthenticationCleartextPassword():
                 return PasswordMessage(self._password)
             case AuthenticationMD5Password(salt):
@@ -69,7 +62,14 @@ class Login:
             case AuthenticationSASL():
                 return self._scram.initial()
             case AuthenticationSASLContinue():
-                return self._scram.response(asked)
+                return self._scram.response(message)
             case AuthenticationSASLFinal():
-                self._scram.check(asked)
+                self._scram.check(message)
+            case Authentication() if not isinstance(message, AuthenticationOk):
+                raise ValueError(f"{type(message).__name__} is no login that is known here")
         return None
+
+
+def beginning(message: BackendMessage | list[Any]) -> bytes:
+    """The body of a message, where the flow looks at it."""
+    return message.write()[HEADER:] if isinstance(message, (Authentication, ReadyForQuery)) else b""

@@ -88,6 +88,9 @@ WITHOUT = {
     "NOT_FRAMES": "test_relay.py has it",
     "FRAME_TOO_LONG": "test_relay.py and test_streams.py have it",
     "UNKNOWN_LETTER": "test_logical.py has it",
+    "BUSY": "a ServerConnection waits then",
+    **dict.fromkeys(["NOT_READY", "AFTER_END", "IN_COPY", "NOT_IN_COPY", "UNASKED", "NOT_AN_ANSWER", "BEHIND_COPY", "SYNC_FIRST",
+                     "FLOW_FULL"], "test_connection.py has it"),
 }
 
 

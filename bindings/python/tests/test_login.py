@@ -96,8 +96,10 @@ LATER = [
     ParameterStatus("a", "b"), BackendKeyData(1, bytes(4)), NotificationResponse(1, "a"),
 ]
 
-# What may come at any time.
-BESIDE = [NoticeResponse({"M": "a"}), ErrorResponse({"M": "a"}), NegotiateProtocolVersion(0)]
+NOTICE = NoticeResponse({"M": "a"})
+
+# How a Login refuses: a message that may not come now, or one that it doesn't like.
+REFUSALS = Fault, ValueError
 
 
 def after(messages):
@@ -122,44 +124,52 @@ class TestLogin(unittest.TestCase):
     def test_what_comes_before_the_login_is_accepted(self):
         for messages in LOGINS:
             for count in range(len(messages)):
-                for message in LATER:
-                    self.assertRaises(ValueError, after(messages[:count]).answer, message)
-            for message in LATER:
+                for message in (*LATER, NOTICE):
+                    self.assertRaises(Fault, after(messages[:count]).answer, message)
+            for message in (*LATER, NOTICE):
+                self.assertIsNone(after([*messages, ReadyForQuery()]).answer(message))
+            for message in (NOTICE, ParameterStatus("a", "b"), BackendKeyData(1, bytes(4)), ReadyForQuery()):
                 self.assertIsNone(after(messages).answer(message))
+            for message in ([("1",)], DataRow(["1"]), CommandComplete("SELECT 1"), CopyData(b"")):
+                self.assertRaises(Fault, after(messages).answer, message)
 
     def test_what_is_asked_out_of_turn(self):
         known = {asked for messages in LOGINS for asked in messages}
         for messages in LOGINS:
             for count in range(1, len(messages) + 1):
                 for asked in known - {*messages[count : count + 1]}:
-                    self.assertRaises(ValueError, after(messages[:count]).answer, asked)
+                    self.assertRaises(Fault, after(messages[:count]).answer, asked)
 
     def test_in_mid_session(self):
         for messages in LOGINS:
             for asked in (AuthenticationOk(), AuthenticationCleartextPassword(), OFFER, CHALLENGE, FINAL):
-                self.assertRaises(ValueError, after([*messages, ReadyForQuery(), [("1",)]]).answer, asked)
+                self.assertRaises(Fault, after([*messages, ReadyForQuery(), [("1",)]]).answer, asked)
 
-    def test_what_may_come_at_any_time(self):
+    def test_an_error_and_a_version(self):
         for messages in LOGINS:
             for count in range(len(messages) + 1):
-                for message in BESIDE:
-                    self.assertIsNone(after(messages[:count]).answer(message))
+                login = after(messages[:count])
+                self.assertIsNone(login.answer(ErrorResponse({"M": "a"})))
+                for asked in LOGINS[1]:
+                    self.assertRaises(Fault, login.answer, asked)
+            self.assertIsNone(after([]).answer(NegotiateProtocolVersion(0)))
+            self.assertRaises(Fault, after(messages).answer, NegotiateProtocolVersion(0))
 
     def test_a_server_that_does_not_prove_itself(self):
         login = Login("ann", "secret")
         first = login.answer(AuthenticationSASL(["SCRAM-SHA-256-PLUS", "SCRAM-SHA-256"]))
         self.assertEqual(first.mechanism, b"SCRAM-SHA-256")
         nonce = first.data.decode().partition("r=")[2]
-        self.assertRaises(ValueError, login.answer, AuthenticationOk())
+        self.assertRaises(Fault, login.answer, AuthenticationOk())
         answer = login.answer(AuthenticationSASLContinue(f"r={nonce}abc,s=AQID,i=1"))
         self.assertTrue(answer.data.startswith(f"c=biws,r={nonce}abc,p=".encode()))
         for message in (AuthenticationOk(), AuthenticationSASLFinal("v=AQID"), AuthenticationOk()):
-            self.assertRaises(ValueError, login.answer, message)
+            self.assertRaises(REFUSALS, login.answer, message)
 
     def test_what_is_not_known(self):
         for message in (AuthenticationGSS(), AuthenticationSSPI(), AuthenticationKerberosV5(), CHALLENGE,
                         AuthenticationSASL(["SCRAM-SHA-1"]), AuthenticationSASLFinal("v=AQID")):
-            self.assertRaises(ValueError, Login("ann", "secret").answer, message)
+            self.assertRaises(REFUSALS, Login("ann", "secret").answer, message)
 
 
 if __name__ == "__main__":

@@ -35,7 +35,7 @@ LEFT_OUT = {
 
 class TestHeader(unittest.TestCase):
     def test_each_call_is_used_or_left_out(self):
-        used = set(re.findall(r"\bpgmsg_(?:put|read|next|relay|check)_\w+", SOURCES))
+        used = set(re.findall(r"\bpgmsg_(?:put|read|next|relay|check|flow)_\w+", SOURCES))
         calls = {name for name in dir(lib) if name.startswith("pgmsg_") and name not in ("pgmsg_version", "pgmsg_strerror")}
         self.assertEqual(calls - used, set(LEFT_OUT))
 
@@ -55,7 +55,8 @@ class TestPackage(unittest.TestCase):
             it = getattr(pgmsg, name)
             if callable(it):
                 self.assertTrue((it.__doc__ or "").strip() and not it.__doc__.startswith(f"{name}("), name)
-        for kind in (pgmsg.Message, pgmsg.ClientStream, pgmsg.ServerStream, pgmsg.Relay, pgmsg.Scram, pgmsg.Login):
+        for kind in (pgmsg.Message, pgmsg.ClientStream, pgmsg.ServerStream, pgmsg.Relay, pgmsg.Scram, pgmsg.Login,
+                     pgmsg.Connection, pgmsg.ServerConnection, pgmsg.Flow):
             for name, it in inspect.getmembers(kind, inspect.isfunction):
                 self.assertTrue(name.startswith("_") or it.__doc__, f"{kind.__name__}.{name}")
 
@@ -91,11 +92,11 @@ class TestReadme(unittest.TestCase):
     def run_program(self, *pieces):
         """What the program sends and prints where a server says this."""
         program = re.search(r"```python\n(.*?)```", (support.TOP / "README.md").read_text(), re.DOTALL)[1]
-        connection = mock.Mock()
-        connection.recv.side_effect = pieces
-        with redirect_stdout(io.StringIO()) as output, contextlib.suppress(ValueError):
-            exec(program, {"connection": connection})
-        return b"".join(call.args[0] for call in connection.sendall.call_args_list), output.getvalue()
+        server = mock.Mock()
+        server.recv.side_effect = pieces
+        with redirect_stdout(io.StringIO()) as output, contextlib.suppress(pgmsg.Fault):
+            exec(program, {"server": server})
+        return b"".join(call.args[0] for call in server.sendall.call_args_list), output.getvalue()
 
     def test_its_program(self):
         asked = b"R\0\0\0\x08\0\0\0\3", b"R\0\0\0\x08\0\0\0\0Z\0\0\0\5I"
