@@ -114,18 +114,20 @@ enum pgmsg_refusal {
     PGMSG_IN_COPY = -33,
     /* No COPY takes data. */
     PGMSG_NOT_IN_COPY = -34,
+    /* Data of a COPY go both ways: those of the client are ended by CopyDone, and can't be refused. */
+    PGMSG_NOT_REFUSABLE = -35,
     /* No request waits for an answer. */
-    PGMSG_UNASKED = -35,
+    PGMSG_UNASKED = -36,
     /* A server is done with no request before this one. */
-    PGMSG_BUSY = -36,
+    PGMSG_BUSY = -37,
     /* A message doesn't answer the request that waits. */
-    PGMSG_NOT_AN_ANSWER = -37,
+    PGMSG_NOT_AN_ANSWER = -38,
     /* A COPY asks for data, and other requests were said behind it. */
-    PGMSG_BEHIND_COPY = -38,
+    PGMSG_BEHIND_COPY = -39,
     /* It can't be known whether the server passes over a request: a Sync is to be said first. */
-    PGMSG_SYNC_FIRST = -39,
+    PGMSG_SYNC_FIRST = -40,
     /* No more requests may wait, or no memory was there for those that do. */
-    PGMSG_FLOW_FULL = -40,
+    PGMSG_FLOW_FULL = -41,
 };
 
 enum {
@@ -157,10 +159,12 @@ enum pgmsg_mode_kind {
     PGMSG_MODE_COPY_IN = 3,
     /* The server gives data of a COPY. */
     PGMSG_MODE_COPY_OUT = 4,
+    /* Data of a COPY go both ways. */
+    PGMSG_MODE_COPY_BOTH = 5,
     /* No request waits, and after an error the server passes over each but a Sync. */
-    PGMSG_MODE_SKIPPING = 5,
+    PGMSG_MODE_SKIPPING = 6,
     /* Nothing may be asked any more. */
-    PGMSG_MODE_ENDED = 6,
+    PGMSG_MODE_ENDED = 7,
 };
 
 /* What a message of a server answers. */

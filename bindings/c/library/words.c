@@ -37,6 +37,7 @@ static const char *const refusals[] = {
     [-PGMSG_AFTER_END] = "the session is over",
     [-PGMSG_IN_COPY] = "the data of a COPY are due",
     [-PGMSG_NOT_IN_COPY] = "no COPY takes data",
+    [-PGMSG_NOT_REFUSABLE] = "the data of this COPY can't be refused",
     [-PGMSG_UNASKED] = "no request waits for an answer",
     [-PGMSG_BUSY] = "another request is being answered",
     [-PGMSG_NOT_AN_ANSWER] = "the message doesn't answer the request that waits",

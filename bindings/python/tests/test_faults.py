@@ -89,7 +89,7 @@ WITHOUT = {
     "FRAME_TOO_LONG": "test_relay.py and test_streams.py have it",
     "UNKNOWN_LETTER": "test_logical.py has it",
     "BUSY": "a ServerConnection waits then",
-    **dict.fromkeys(["NOT_READY", "AFTER_END", "IN_COPY", "NOT_IN_COPY", "UNASKED", "NOT_AN_ANSWER", "BEHIND_COPY", "SYNC_FIRST",
+    **dict.fromkeys(["NOT_READY", "AFTER_END", "IN_COPY", "NOT_IN_COPY", "NOT_REFUSABLE", "UNASKED", "NOT_AN_ANSWER", "BEHIND_COPY", "SYNC_FIRST",
                      "FLOW_FULL"], "test_connection.py has it"),
 }
 

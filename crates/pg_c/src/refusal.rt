@@ -112,23 +112,26 @@ pub const IN_COPY: i32 = -33;
 /// No COPY takes data.
 pub const NOT_IN_COPY: i32 = -34;
 
+/// Data of a COPY go both ways: those of the client are ended by CopyDone, and can't be refused.
+pub const NOT_REFUSABLE: i32 = -35;
+
 /// No request waits for an answer.
-pub const UNASKED: i32 = -35;
+pub const UNASKED: i32 = -36;
 
 /// A server is done with no request before this one.
-pub const BUSY: i32 = -36;
+pub const BUSY: i32 = -37;
 
 /// A message doesn't answer the request that waits.
-pub const NOT_AN_ANSWER: i32 = -37;
+pub const NOT_AN_ANSWER: i32 = -38;
 
 /// A COPY asks for data, and other requests were said behind it.
-pub const BEHIND_COPY: i32 = -38;
+pub const BEHIND_COPY: i32 = -39;
 
 /// It can't be known whether the server passes over a request: a Sync is to be said first.
-pub const SYNC_FIRST: i32 = -39;
+pub const SYNC_FIRST: i32 = -40;
 
 /// No more requests may wait, or no memory was there for those that do.
-pub const FLOW_FULL: i32 = -40;
+pub const FLOW_FULL: i32 = -41;
 
 /// What is wrong with bytes that were read. `number` is what the call returned. `at` is an offset
 /// in them, where the fault has one, else 0. `words` are `words_len` bytes of ASCII, none where

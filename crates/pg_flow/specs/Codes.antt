@@ -57,7 +57,11 @@ place_as number =
     else if number == 8 then places.Parameters
     else if number == 9 then places.Value
     else if number == 10 then places.Failed
-    else places.Skipping
+    else if number == 11 then places.Skipping
+    else if number == 12 then places.Both
+    else if number == 13 then places.BothIn
+    else if number == 14 then places.BothOut
+    else places.BothDone
 
 abbrev pub request_as : ℕ → Request
 request_as number =
@@ -82,5 +86,6 @@ mode_number modes.Idle = 1
 mode_number modes.Busy = 2
 mode_number modes.CopyIn = 3
 mode_number modes.CopyOut = 4
-mode_number modes.Skipping = 5
-mode_number modes.Ended = 6
+mode_number modes.CopyBoth = 5
+mode_number modes.Skipping = 6
+mode_number modes.Ended = 7

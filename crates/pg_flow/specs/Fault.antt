@@ -9,6 +9,7 @@ fault_words faults.NotReady = codes "the login isn't over, and doesn't wait for 
 fault_words faults.AfterEnd = codes "the session is over"
 fault_words faults.InCopy = codes "the data of a COPY are to be given or refused first"
 fault_words faults.NotInCopy = codes "no COPY takes data"
+fault_words faults.NotRefusable = codes "the data of this COPY go both ways, and can't be refused"
 fault_words faults.Unasked = codes "no request waits for an answer"
 fault_words faults.Busy = codes "the server is answering another request"
 fault_words faults.NotAnAnswer = codes "the message doesn't answer the request that waits"

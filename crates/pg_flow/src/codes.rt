@@ -107,6 +107,10 @@ pub fn number_of_place(place: Place) -> u8
         Place::Value => 9,
         Place::Failed => 10,
         Place::Skipping => 11,
+        Place::Both => 12,
+        Place::BothIn => 13,
+        Place::BothOut => 14,
+        Place::BothDone => 15,
     }
 }
 
@@ -126,7 +130,11 @@ pub fn place_of(number: u8) -> Place
         8 => Place::Parameters,
         9 => Place::Value,
         10 => Place::Failed,
-        _ => Place::Skipping,
+        11 => Place::Skipping,
+        12 => Place::Both,
+        13 => Place::BothIn,
+        14 => Place::BothOut,
+        _ => Place::BothDone,
     }
 }
 
@@ -219,7 +227,8 @@ pub fn number_of_mode(mode: Mode) -> u8
         Mode::Busy => 2,
         Mode::CopyIn => 3,
         Mode::CopyOut => 4,
-        Mode::Skipping => 5,
-        Mode::Ended => 6,
+        Mode::CopyBoth => 5,
+        Mode::Skipping => 6,
+        Mode::Ended => 7,
     }
 }

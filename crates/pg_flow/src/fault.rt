@@ -44,6 +44,12 @@ impl fmt::Display for Fault {
             Fault::AfterEnd => write!(f, "the session is over"),
             Fault::InCopy => write!(f, "the data of a COPY are to be given or refused first"),
             Fault::NotInCopy => write!(f, "no COPY takes data"),
+            Fault::NotRefusable => {
+                write!(
+                    f,
+                    "the data of this COPY go both ways, and can't be refused"
+                )
+            }
             Fault::Unasked => write!(f, "no request waits for an answer"),
             Fault::Busy => write!(f, "the server is answering another request"),
             Fault::NotAnAnswer => write!(f, "the message doesn't answer the request that waits"),

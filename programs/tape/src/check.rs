@@ -7,8 +7,7 @@ use crate::failure::{Result, TapeFailure, TapeStatus};
 use crate::line::LineWriter;
 use crate::progress::Progress;
 use crate::recording_file::RecordingFile;
-use pgmsg::flow::{words, Fault, Flow, Heard, Mode};
-use pgmsg::frontend;
+use pgmsg::flow::{Fault, Flow, Heard, Mode};
 use recording::Side;
 use std::collections::HashMap;
 use std::fmt;
@@ -75,7 +74,7 @@ impl fmt::Display for Break {
         };
         let (seconds, rest) = (self.time / 1_000_000, self.time % 1_000_000);
         write!(f, "connection {}, message {}, ", self.connection, self.number)?;
-        write!(f, "{} of the {side} at {seconds}.{rest:06} s: {}", self.kind, words(self.fault))?;
+        write!(f, "{} of the {side} at {seconds}.{rest:06} s: {}", self.kind, self.fault)?;
         match &self.due[..] {
             [] => write!(f, "; nothing of the {side} could have come"),
             due => write!(f, "; what could have come: {}", due.join(", ")),
@@ -96,7 +95,6 @@ struct Session {
     flow: Flow,
     trail: Trail,
     state: State,
-    is_replication: bool,
     /// Messages of its login are left out.
     is_left_out: bool,
     messages: u64,
@@ -171,7 +169,6 @@ impl Session {
             flow: Flow::client(),
             trail: Trail::default(),
             state: State::Followed,
-            is_replication: false,
             is_left_out: false,
             messages: 0,
         }
@@ -184,7 +181,6 @@ impl Session {
             Side::Client if self.state == State::Over => return Ok(()),
             Side::Client => {
                 self.flow.said(tag, body)?;
-                self.is_replication |= tag.is_none() && asks_for_replication(message);
             }
             Side::Server => {
                 if self.flow.heard(tag, body)? == Heard::End {
@@ -210,23 +206,13 @@ impl Session {
         RawMessage { tag: Some(tag), bytes: [head, body].concat().into() }
     }
 
-    /// Whether a fault is none of the session, since the flow doesn't follow what it does: replication, and the end of a
-    /// COPY's data before the server asks for them. A login of which messages are left out may be any.
+    /// Whether a fault is none of the session, since the flow doesn't follow what it does: the end of a COPY's data before
+    /// the server asks for them. A login of which messages are left out may be any.
     fn is_beyond(&self, fault: Fault, side: Side, tag: Option<u8>) -> bool {
         let is_login = self.is_left_out && self.flow.mode() == Mode::Login;
         let ends_early =
             side == Side::Client && matches!(tag, Some(b'c' | b'f')) && fault == Fault::NotInCopy;
-        self.is_replication || is_login || ends_early
-    }
-}
-
-/// Whether a Startup asks for replication.
-fn asks_for_replication(message: &RawMessage<'_>) -> bool {
-    match frontend::Message::read_body(message.tag, message.body()) {
-        Ok(frontend::Message::Startup(startup)) => {
-            startup.settings.iter().any(|setting| setting.name == "replication")
-        }
-        _ => false,
+        is_login || ends_early
     }
 }
 
@@ -255,6 +241,8 @@ mod tests {
             // What crosses the last words of the server is passed over.
             ("_<RZE>QQX", 7),
             ("_<E", 2),
+            // Replication: data go both ways, and each side ends its own.
+            ("r<RZ>Q<Wd>dc<cCCZ>X", 13),
         ];
         for (text, messages) in table {
             let counts = Counts { sessions: 1, messages, ..Counts::default() };
@@ -267,8 +255,8 @@ mod tests {
         let table = [
             (
                 "_<RZ>Q<TDZ",
-                "connection 1, message 7, ReadyForQuery of the server at 1.500000 s: it doesn't answer the request that \
-                 waits; what could have come: RowDescription, DataRow, CommandComplete, ErrorResponse",
+                "connection 1, message 7, ReadyForQuery of the server at 1.500000 s: the message doesn't answer \
+                 the request that waits; what could have come: RowDescription, DataRow, CommandComplete, ErrorResponse",
             ),
             (
                 "_<RZC",
@@ -277,8 +265,8 @@ mod tests {
             ),
             (
                 "_<Z",
-                "connection 1, message 2, ReadyForQuery of the server at 1.500000 s: the login doesn't wait for it; what could \
-                 have come: AuthenticationOk, AuthenticationKerberosV5, AuthenticationCleartextPassword, AuthenticationGSS, \
+                "connection 1, message 2, ReadyForQuery of the server at 1.500000 s: the login isn't over, and doesn't wait \
+                 for this message; what could have come: AuthenticationOk, AuthenticationKerberosV5, AuthenticationCleartextPassword, AuthenticationGSS, \
                  AuthenticationSASL, NegotiateProtocolVersion, ErrorResponse",
             ),
             (
@@ -288,7 +276,7 @@ mod tests {
             ),
             (
                 "_<RZ>XQ",
-                "connection 1, message 5, Query of the client at 1.500000 s: the session has ended; what could have come: \
+                "connection 1, message 5, Query of the client at 1.500000 s: the session is over; what could have come: \
                  Terminate",
             ),
         ];
@@ -300,10 +288,8 @@ mod tests {
 
     #[test]
     fn what_the_flow_does_not_follow_is_no_break() {
-        for text in ["r<RZ>Q<W", "_<RZ>PBEdcS<12GCZ"] {
-            let (breaks, counts) = checked(text);
-            assert_eq!((breaks.len(), counts.broken, counts.unfollowed), (0, 0, 1), "{text}");
-        }
+        let (breaks, counts) = checked("_<RZ>PBEdcS<12GCZ");
+        assert_eq!((breaks.len(), counts.broken, counts.unfollowed), (0, 0, 1));
     }
 
     #[test]

@@ -367,9 +367,9 @@ impl fmt::Display for Error {
         };
         match tag {
             Some(tag) => {
-                write!(f, "{}, at a message of the tag {:?}", flow::words(fault), *tag as char)
+                write!(f, "{fault}, at a message of the tag {:?}", *tag as char)
             }
-            None => write!(f, "{}, at a message without a tag", flow::words(fault)),
+            None => write!(f, "{fault}, at a message without a tag"),
         }
     }
 }

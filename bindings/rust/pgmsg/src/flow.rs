@@ -106,20 +106,3 @@ impl fmt::Debug for Flow {
             .finish_non_exhaustive()
     }
 }
-
-/// What a fault says, in words.
-pub const fn words(fault: Fault) -> &'static str {
-    match fault {
-        Fault::Unknown => "no message of that side begins so",
-        Fault::NotReady => "the login doesn't wait for it",
-        Fault::AfterEnd => "the session has ended",
-        Fault::InCopy => "the data of a COPY are to be given or refused first",
-        Fault::NotInCopy => "no COPY takes data",
-        Fault::Unasked => "no request waits for an answer",
-        Fault::Busy => "the request before isn't answered yet",
-        Fault::NotAnAnswer => "it doesn't answer the request that waits",
-        Fault::BehindCopy => "a COPY asks for data, and other requests were said behind it",
-        Fault::SyncFirst => "a Sync is to be said first",
-        Fault::Full => "no memory for one more request that waits",
-    }
-}

@@ -13,12 +13,13 @@ flow_number faults.NotReady = negsuc 30
 flow_number faults.AfterEnd = negsuc 31
 flow_number faults.InCopy = negsuc 32
 flow_number faults.NotInCopy = negsuc 33
-flow_number faults.Unasked = negsuc 34
-flow_number faults.Busy = negsuc 35
-flow_number faults.NotAnAnswer = negsuc 36
-flow_number faults.BehindCopy = negsuc 37
-flow_number faults.SyncFirst = negsuc 38
-flow_number faults.Full = negsuc 39
+flow_number faults.NotRefusable = negsuc 34
+flow_number faults.Unasked = negsuc 35
+flow_number faults.Busy = negsuc 36
+flow_number faults.NotAnAnswer = negsuc 37
+flow_number faults.BehindCopy = negsuc 38
+flow_number faults.SyncFirst = negsuc 39
+flow_number faults.Full = negsuc 40
 
 -- no fault names an offset
 abbrev pub IsFlowReport : Fault → PgmsgFault → PgmsgFault → ℤ → Type 0

@@ -5,7 +5,7 @@ ghost use Rattle.pg_c.specs.Flow.Refusal.{flow_number, IsFlowReport};
 
 use crate::refusal::{
     AFTER_END, BEHIND_COPY, BUSY, FLOW_FULL, IN_COPY, NOT_AN_ANSWER, NOT_IN_COPY, NOT_READY,
-    PgmsgFault, SYNC_FIRST, UNASKED, UNKNOWN_MESSAGE_TYPE, fill,
+    NOT_REFUSABLE, PgmsgFault, SYNC_FIRST, UNASKED, UNKNOWN_MESSAGE_TYPE, fill,
 };
 use pg_flow::Fault;
 use std::alloc::Global;
@@ -20,6 +20,7 @@ fn number_of(fault: Fault) -> i32
         Fault::AfterEnd => AFTER_END,
         Fault::InCopy => IN_COPY,
         Fault::NotInCopy => NOT_IN_COPY,
+        Fault::NotRefusable => NOT_REFUSABLE,
         Fault::Unasked => UNASKED,
         Fault::Busy => BUSY,
         Fault::NotAnAnswer => NOT_AN_ANSWER,

@@ -27,11 +27,14 @@ pub const MODE_COPY_IN: i32 = 3;
 /// The server gives data of a COPY.
 pub const MODE_COPY_OUT: i32 = 4;
 
+/// Data of a COPY go both ways.
+pub const MODE_COPY_BOTH: i32 = 5;
+
 /// No request waits, and after an error the server passes over each but a Sync.
-pub const MODE_SKIPPING: i32 = 5;
+pub const MODE_SKIPPING: i32 = 6;
 
 /// Nothing may be asked any more.
-pub const MODE_ENDED: i32 = 6;
+pub const MODE_ENDED: i32 = 7;
 
 /// A message of a server answers no request: a notice, a notification or a setting.
 pub const HEARD_BY_ITSELF: i32 = 0;
