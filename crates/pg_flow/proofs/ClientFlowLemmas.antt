@@ -1,5 +1,5 @@
 -- The Syncs at the front of a queue, by lengths, and where the data of a COPY may end.
-use Rattle.std.proofs.Common.{◌≡◌, ℕ, ◌+◌, List, [], ◌∷◌, length, refl, sym, arith, eq-eqb, Bool, true, false}
+use Rattle.std.proofs.Common.{◌≡◌, ℕ, ◌+◌, List, [], ◌∷◌, length, refl, sym, arith, eq-eqb, Bool, true}
 use Rattle.std.specs.Prelude.{nat_eq}
 use Rattle.std.proofs.lemmas.Bool.Decides.{nat_tests}
 use Rattle.pg_flow.specs.declared.request.Request.{Request}

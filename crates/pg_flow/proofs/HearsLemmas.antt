@@ -15,7 +15,7 @@ use Rattle.pg_flow.specs.ServerFlow.{Asks, Busy, Ends, Idle, Server, Skips, Up, 
 use Rattle.pg_flow.specs.Table.{next_of}
 use Rattle.pg_flow.proofs.PlainLemmas.{Alone, Takes_it, Tidy, answer_taken, asks, has_end, impossible, never_asked, placed, placed_not, pushes_up, tidy_clean, tidy_then, up_behind, up_idle, up_still}
 use Rattle.pg_flow.proofs.RestLemmas.{rest}
-use Rattle.pg_flow.proofs.CoversLemmas.{Awaits, Copy_as, Copy_at, Copy_covers, Covers, Group_busy, Group_covers, Neat, Numbered, Plain_covers, Reads, Rest_is, Sync_first, behind_up, lead_up, plain_of}
+use Rattle.pg_flow.proofs.CoversLemmas.{Awaits, Copy_as, Copy_at, Copy_covers, Covers, Group_busy, Group_covers, Neat, Numbered, Plain_covers, Reads, Sync_first, behind_up, lead_up, plain_of}
 use Rattle.pg_flow.proofs.TakesLemmas.{neat_clean}
 
 -- the server answers, and the client hears it

@@ -4,7 +4,7 @@ use Rattle.std.specs.Prelude.{IfSome, if◌then◌else◌}
 use Rattle.pg_flow.specs.declared.answer.Answer.{Answer}
 use Rattle.pg_flow.specs.declared.answer.Answer.TheVariants.{BindComplete, CloseComplete, CommandComplete, CopyBoth, CopyData, CopyDone, CopyIn, CopyOut, DataRow, EmptyQuery, Failure, FunctionResult, NoData, ParameterDescription, ParseComplete, PortalSuspended, Ready, RowDescription}
 use Rattle.pg_flow.specs.declared.place.Place.{Place}
-use Rattle.pg_flow.specs.declared.place.Place.TheVariants.{Asked, Both, BothDone, BothIn, BothOut, Failed, Given, Out, OutDone, Over, Parameters, Rows, Skipping, Start, Value, Withheld}
+use Rattle.pg_flow.specs.declared.place.Place.TheVariants.{Asked, Both, BothDone, BothIn, BothOut, Failed, Given, Out, OutDone, Over, Parameters, Rows, Skipping, Start, Value}
 use Rattle.pg_flow.specs.declared.request.Request.{Request}
 use Rattle.pg_flow.specs.declared.request.Request.TheVariants.{Bind, Call, Close, DescribePortal, DescribeStatement, Execute, Parse, Query, Sync}
 use Rattle.pg_flow.specs.declared.table.Next.{Next}

@@ -10,7 +10,7 @@ use Rattle.pg_flow.specs.Plain.{State, given, is_open, is_sync, state}
 use Rattle.pg_flow.specs.ServerFlow.{Asks, Busy, Ends, Idle, Server, Skips, Up, counted, drops, take, take_end}
 use Rattle.pg_flow.proofs.PlainLemmas.{Alone, Tidy, asks, has_end, impossible, placed, pushes_up, up_behind}
 use Rattle.pg_flow.proofs.RestLemmas.{rest}
-use Rattle.pg_flow.proofs.CoversLemmas.{Awaits, Copy_as, Copy_covers, Covers, Group_busy, Group_covers, Neat, Plain_covers, Reads, Rest_is, lead_up}
+use Rattle.pg_flow.proofs.CoversLemmas.{Awaits, Copy_as, Copy_covers, Covers, Group_busy, Group_covers, Neat, Plain_covers, Reads, lead_up}
 
 -- the server takes a message
 
