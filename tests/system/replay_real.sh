@@ -105,8 +105,9 @@ pidfile = $work/bouncer/pid
 auth_type = trust
 auth_file = $work/bouncer/users
 pool_mode = transaction
+admin_users = postgres
 default_pool_size = 3
-server_idle_timeout = 1
+server_idle_timeout = 3600
 server_lifetime = 3600
 INI
     echo '"postgres" ""' > "$work/bouncer/users"
@@ -117,7 +118,19 @@ INI
     await eval "(exec 3<> /dev/tcp/127.0.0.1/$bouncer_port) 2> /dev/null"
 }
 
+# What the pooler says to an administrator's words.
+ask_bouncer() {
+    "$bin/psql" -h 127.0.0.1 -p "$bouncer_port" -U postgres -X -w -Atc "$1" pgbouncer
+}
+
+has_no_server() {
+    [ -z "$(ask_bouncer 'SHOW SERVERS')" ]
+}
+
+# Stops the pooler once it has ended its connections, which it does by a Terminate only where they were idle for a while.
 stop_bouncer() {
+    ask_bouncer 'SET server_idle_timeout = 1' > /dev/null
+    await has_no_server
     kill "$(cat "$work/bouncer/pid")"
     reap "$bouncing"
 }
@@ -126,8 +139,6 @@ stop_bouncer() {
 through_bouncer() {
     start_bouncer "$1"
     at_port "$bouncer_port" bash -c "pgbench_without_times -M simple -c 6 -j 2 -t 10" 2>&1 | tr -d '\0'
-    # It ends its connections when they were idle for a second.
-    sleep 3
     stop_bouncer
 }
 

@@ -29,13 +29,19 @@
 
 /* The version of this header. `pgmsg_version` has that of the library. */
 #define PGMSG_VERSION "0.2.0"
+#define PGMSG_VERSION_MAJOR 0
+#define PGMSG_VERSION_MINOR 2
+#define PGMSG_VERSION_PATCH 0
 
 #ifdef __cplusplus
 extern "C" {
 #endif
 
+/* A literal of C as the two arguments that a call takes for a text: its bytes, and how many they are. */
+#define pgmsg_text(literal) ((const uint8_t *)("" literal)), (sizeof(literal) - 1)
+
 /* Why a call refuses. */
-enum {
+enum pgmsg_refusal {
     /* No memory was there. No call of this library returns it. */
     PGMSG_OUT_OF_MEMORY = -1,
     /* More parameter formats than a message can count. */
@@ -73,8 +79,8 @@ enum {
     PGMSG_BASE64 = -17,
     /* The length of a message is below 4, or that of a client's first message below 8. */
     PGMSG_BAD_LENGTH = -18,
-    /* A text to be sent holds a NUL, or would end its list: the name of a setting or of a mechanism
-     * is empty, or the letter of a field is 0. */
+    /* A text to be sent holds a NUL, or would end its list: the name of a setting or of a mechanism is
+     * empty, or the letter of a field is 0. */
     PGMSG_TEXT_HOLDS_NUL = -19,
     /* More values of a Bind, or arguments of a FunctionCall, than a message can count. */
     PGMSG_BAD_PARAMS = -20,
@@ -101,9 +107,7 @@ enum {
 };
 
 /* The kinds of a first message. */
-enum {
-    /* The greatest length of a first message that PostgreSQL's servers take. */
-    PGMSG_MAX_FIRST_LENGTH = 10004,
+enum pgmsg_first_kind {
     /* A session is opened: a StartupMessage. */
     PGMSG_FIRST_STARTUP = 0,
     /* The query of another session is to be cancelled: a CancelRequest. */
@@ -112,6 +116,104 @@ enum {
     PGMSG_FIRST_SSL_REQUEST = 2,
     /* The client asks for encryption by GSSAPI: a GSSENCRequest. */
     PGMSG_FIRST_GSS_ENC_REQUEST = 3,
+};
+
+enum {
+    /* The greatest length of a first message that PostgreSQL's servers take. */
+    PGMSG_MAX_FIRST_LENGTH = 10004,
+};
+
+/* The tags of messages from a server. */
+enum pgmsg_backend {
+    PGMSG_BACKEND_AUTHENTICATION = 'R',
+    PGMSG_BACKEND_BACKEND_KEY_DATA = 'K',
+    PGMSG_BACKEND_BIND_COMPLETE = '2',
+    PGMSG_BACKEND_CLOSE_COMPLETE = '3',
+    PGMSG_BACKEND_COMMAND_COMPLETE = 'C',
+    PGMSG_BACKEND_COPY_DATA = 'd',
+    PGMSG_BACKEND_COPY_DONE = 'c',
+    PGMSG_BACKEND_COPY_IN_RESPONSE = 'G',
+    PGMSG_BACKEND_COPY_OUT_RESPONSE = 'H',
+    PGMSG_BACKEND_DATA_ROW = 'D',
+    PGMSG_BACKEND_EMPTY_QUERY_RESPONSE = 'I',
+    PGMSG_BACKEND_ERROR_RESPONSE = 'E',
+    PGMSG_BACKEND_NO_DATA = 'n',
+    PGMSG_BACKEND_NOTICE_RESPONSE = 'N',
+    PGMSG_BACKEND_NOTIFICATION_RESPONSE = 'A',
+    PGMSG_BACKEND_PARAMETER_DESCRIPTION = 't',
+    PGMSG_BACKEND_PARAMETER_STATUS = 'S',
+    PGMSG_BACKEND_PARSE_COMPLETE = '1',
+    PGMSG_BACKEND_PORTAL_SUSPENDED = 's',
+    PGMSG_BACKEND_READY_FOR_QUERY = 'Z',
+    PGMSG_BACKEND_ROW_DESCRIPTION = 'T',
+    PGMSG_BACKEND_COPY_BOTH_RESPONSE = 'W',
+    PGMSG_BACKEND_FUNCTION_CALL_RESPONSE = 'V',
+    PGMSG_BACKEND_NEGOTIATE_PROTOCOL_VERSION = 'v',
+};
+
+/* The tags of messages from a client. Passwords and messages of SASL, GSSAPI and SSPI share one. */
+enum pgmsg_frontend {
+    PGMSG_FRONTEND_BIND = 'B',
+    PGMSG_FRONTEND_CLOSE = 'C',
+    PGMSG_FRONTEND_DESCRIBE = 'D',
+    PGMSG_FRONTEND_EXECUTE = 'E',
+    PGMSG_FRONTEND_FUNCTION_CALL = 'F',
+    PGMSG_FRONTEND_FLUSH = 'H',
+    PGMSG_FRONTEND_PARSE = 'P',
+    PGMSG_FRONTEND_QUERY = 'Q',
+    PGMSG_FRONTEND_SYNC = 'S',
+    PGMSG_FRONTEND_TERMINATE = 'X',
+    PGMSG_FRONTEND_COPY_DONE = 'c',
+    PGMSG_FRONTEND_COPY_DATA = 'd',
+    PGMSG_FRONTEND_COPY_FAIL = 'f',
+    PGMSG_FRONTEND_PASSWORD_POLYMORPHIC = 'p',
+};
+
+/* The methods of a request for authentication. */
+enum pgmsg_method {
+    PGMSG_METHOD_SASL = 10,
+    PGMSG_METHOD_OK = 0,
+    PGMSG_METHOD_KERBEROS_V5 = 2,
+    PGMSG_METHOD_CLEARTEXT_PASSWORD = 3,
+    PGMSG_METHOD_MD5_PASSWORD = 5,
+    PGMSG_METHOD_SCM_CREDENTIAL = 6,
+    PGMSG_METHOD_GSS = 7,
+    PGMSG_METHOD_GSS_CONTINUE = 8,
+    PGMSG_METHOD_SSPI = 9,
+    PGMSG_METHOD_SASL_CONTINUE = 11,
+    PGMSG_METHOD_SASL_FINAL = 12,
+};
+
+/* The severities of errors and notices: the first three are those of errors, from the gravest
+ * on. */
+enum pgmsg_severity {
+    PGMSG_SEVERITY_PANIC = 0,
+    PGMSG_SEVERITY_FATAL = 1,
+    PGMSG_SEVERITY_ERROR = 2,
+    PGMSG_SEVERITY_WARNING = 3,
+    PGMSG_SEVERITY_NOTICE = 4,
+    PGMSG_SEVERITY_DEBUG = 5,
+    PGMSG_SEVERITY_INFO = 6,
+    PGMSG_SEVERITY_LOG = 7,
+};
+
+/* Whether a transaction is open, in a ReadyForQuery: none, one, or one that has failed. */
+enum pgmsg_status {
+    PGMSG_STATUS_IDLE = 'I',
+    PGMSG_STATUS_TRANSACTION = 'T',
+    PGMSG_STATUS_ERROR = 'E',
+};
+
+/* What a Describe or a Close names. */
+enum pgmsg_target_kind {
+    PGMSG_TARGET_STATEMENT = 'S',
+    PGMSG_TARGET_PORTAL = 'P',
+};
+
+/* How a value is spelled. */
+enum pgmsg_format {
+    PGMSG_FORMAT_TEXT = 0,
+    PGMSG_FORMAT_BINARY = 1,
 };
 
 /* What is wrong with bytes that were read. `number` is what the call returned. `at` is an offset in

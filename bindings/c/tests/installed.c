@@ -12,7 +12,7 @@ ptrdiff_t other_put_query(const uint8_t *query, size_t query_len, uint8_t *out, 
 int main(void)
 {
     uint8_t out[64];
-    ptrdiff_t len = pgmsg_put_query((const uint8_t *)"SELECT 1", 8, out, sizeof out);
+    ptrdiff_t len = pgmsg_put_query(pgmsg_text("SELECT 1"), out, sizeof out);
     if (len != 14 || memcmp(out, "Q\0\0\0\x0dSELECT 1", 14) != 0)
         return 1;
 #ifdef OTHER

@@ -151,11 +151,12 @@ mod tests {
         });
     }
 
-    /// Begins the program, in a shell after a command of that, and gives what it prints.
+    /// Begins the program, in a shell after a command of that, and gives what it prints. SIGHUP is taken, also where it is
+    /// ignored by whoever runs the tests.
     fn begin(before: &str) -> (Child, Lines<BufReader<ChildStdout>>) {
-        let mut shell = Command::new("sh");
+        let mut shell = Command::new("env");
         shell
-            .args(["-c", &format!("{before}; exec \"$0\" \"$@\"")])
+            .args(["--default-signal=HUP", "sh", "-c", &format!("{before}; exec \"$0\" \"$@\"")])
             .arg(env::current_exe().unwrap());
         shell.args(["--exact", "exit::tests::a_program", "--nocapture"]).env(IS_PROGRAM, "");
         let mut child = shell.stdout(Stdio::piped()).spawn().unwrap();
