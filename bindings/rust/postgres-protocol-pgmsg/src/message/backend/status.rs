@@ -58,7 +58,7 @@ impl CommandCompleteBody {
     }
 
     getters! {
-        /// The name of the command, and how many rows it had to do with.
+        /// The tag of the command: its name, and mostly a number of rows.
         tag(self) -> io::Result<&str> = text(ByteStr(&self.storage));
     }
 }
