@@ -1,19 +1,26 @@
 //! The messages of replication, read where they are.
 
-ghost use Rattle.std.specs.Prelude.{◌≡◌, ◌≤ℤ◌, pos, Ok};
+ghost use Rattle.std.specs.Prelude.{◌≡◌, ◌≤ℤ◌, ◌+◌, pos, length, Ok};
 ghost use Rattle.pg_replication.specs.ReplicationMessage.{ReadsReplication};
-ghost use Rattle.pg_c.specs.Place.{span_of};
+ghost use Rattle.pg_c.specs.Place.{span_of, nowhere};
 ghost use Rattle.pg_c.specs.Read.{IsBodyFault, LeavesRest};
 ghost use Rattle.pg_c.specs.Refusal.{RefusesFor};
 ghost use Rattle.pg_c.specs.Replication.{BreaksReplication, ReadsMessage, ReadsContent, IsGivenAs};
-ghost use Rattle.pg_c.specs.Replication.{given_log, given_keepalive, given_status, given_feedback};
+ghost use Rattle.pg_c.specs.Replication.{
+  given_backup,
+  given_feedback,
+  given_keepalive,
+  given_log,
+  given_status,
+};
 
 use crate::place::{NOWHERE, PgmsgSpan, span};
 use crate::read::check_body;
 use crate::refusal::{PgmsgFault, report};
 use pg_base::ProtocolFault;
 use pg_replication::{
-    HotStandbyFeedback, PrimaryKeepalive, ReplicationMessage, StandbyStatusUpdate, XLogData,
+    HotStandbyFeedback, NewArchive, PrimaryKeepalive, ReplicationMessage, StandbyStatusUpdate,
+    XLogData,
 };
 use std::alloc::Global;
 
@@ -115,12 +122,7 @@ fn given(content: &[u8], message: &ReplicationMessage<'_>) -> PgmsgReplication
         ReplicationMessage::PrimaryKeepalive(keepalive) => given_keepalive(keepalive),
         ReplicationMessage::StandbyStatusUpdate(status) => given_status(status),
         ReplicationMessage::HotStandbyFeedback(feedback) => given_feedback(feedback),
-        ReplicationMessage::NewArchive(archive) => PgmsgReplication {
-            letter: b'n',
-            name: span(LETTER_LENGTH, archive.name),
-            location: span(LETTER_LENGTH + archive.name.len() + 1, archive.location),
-            ..NOTHING
-        },
+        ReplicationMessage::NewArchive(archive) => given_archive(archive),
         ReplicationMessage::Manifest(_) => PgmsgReplication {
             letter: b'm',
             ..NOTHING
@@ -187,6 +189,18 @@ fn given_feedback(feedback: &HotStandbyFeedback) -> PgmsgReplication
         xmin_epoch: feedback.xmin_epoch,
         catalog_xmin: feedback.catalog_xmin,
         catalog_xmin_epoch: feedback.catalog_xmin_epoch,
+        ..NOTHING
+    }
+}
+
+fn given_archive(archive: &NewArchive<'_>) -> PgmsgReplication
+    ensures { result ≡ given_backup 110 0 (span_of 1 archive.now.name.now)
+        (span_of (1 + length archive.now.name.now + 1) archive.now.location.now) nowhere }
+{
+    PgmsgReplication {
+        letter: b'n',
+        name: span(LETTER_LENGTH, archive.name),
+        location: span(LETTER_LENGTH + archive.name.len() + 1, archive.location),
         ..NOTHING
     }
 }

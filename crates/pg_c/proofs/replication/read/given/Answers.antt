@@ -13,4 +13,4 @@ returns-in-NewArchive c =
     let case = c.in-NewArchive in
     let at = placed c.args.content.now c.args.message.now c.requires in
     let is = rw case.is at at in
-    rw (case.is, c.span.ensures, c.span-in-NewArchive.ensures) (is.0, is.1, refl)
+    rw (case.is, c.given_archive.ensures) (is.0, is.1, refl)
