@@ -4,23 +4,22 @@
  *
  * packaging/header makes this file of crates/pg_c/src and bindings/c/library: change it there.
  *
- * No call keeps a pointer, opens anything, or waits. Each pointer is valid for its length for the time of the
- * call, and aligned; where the length is 0 it may be NULL, also in a struct. What a call writes overlaps nothing
- * that it reads. Calls may run at once in several threads, each on memory of its own; none may run in a signal
- * handler.
+ * No call keeps a pointer, opens anything, or waits. Each pointer that is passed has to be aligned, and valid for
+ * its length until the call returns; where the length is 0 it may be NULL, also in a struct. What a call writes
+ * must not overlap what it reads. Several threads may make calls at the same time, each on memory of its own. No
+ * call may be made in a signal handler.
  *
- * A call that writes a message returns the length of the message in bytes, and has written it at the front
- * of `out` where `out` is that long; else `out` is as it was. A call that reads gives places in the bytes that
- * it was passed. Both refuse by one of the numbers below 0. One that reads then fills `fault` too, which only a
- * refusal writes; an array of places holds at most the items before the one that is broken, and all else is as
- * it was.
+ * A call that writes a message returns the length of the message in bytes. Where `out` is at least that long, the
+ * message stands at its front; else `out` is unchanged. A call that reads gives places in the bytes that it was
+ * passed. A call that refuses returns one of the numbers below 0. One that reads then fills `fault` too, which
+ * nothing else writes; an array of places may hold items before the broken one, and all else is unchanged.
  *
- * Names and texts are any bytes, in the encoding of who wrote them; a NUL ends one in a message, and so one that
- * holds a NUL is refused where it is to be written, with PGMSG_TEXT_HOLDS_NUL. `pgmsg_check_utf8` says whether
- * one is UTF-8; `pgmsg_read_severity` and `pgmsg_read_challenge` alone ask for that.
+ * Names and texts are any bytes, in the encoding of their author. A NUL ends a text in a message, so a call
+ * refuses to write a text that holds one, with PGMSG_TEXT_HOLDS_NUL. `pgmsg_check_utf8` says whether a text is
+ * UTF-8, which only `pgmsg_read_severity` and `pgmsg_read_challenge` require.
  *
  * No call needs memory but `pgmsg_flow_said` and `pgmsg_flow_heard`, while more than one request waits. The words
- * of a fault ask for some, and are left out where there is none. */
+ * of a fault take some too, and are left out where there is none. */
 
 #ifndef PG_MESSAGE_H
 #define PG_MESSAGE_H
@@ -717,9 +716,9 @@ typedef struct {
     bool is_last;
 } pgmsg_heard;
 
-/* Why a call refused, by the number below 0 that it returned, in a few words that last as long as
- * the program; those of its fault say more. They are "no error" for 0 and above, and "unknown
- * error" for a number that no call returns. */
+/* A few words for the number below 0 by which a call refused; the words of its fault say more. For
+ * 0 and above they are "no error", and for a number that no call returns "unknown error". They last
+ * as long as the program. */
 const char *pgmsg_strerror(int32_t number);
 
 /* The version of the library, and after a space `proved build`, or `plain build` for one that rustc

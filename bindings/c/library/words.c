@@ -46,8 +46,9 @@ static const char *const refusals[] = {
     [-PGMSG_FLOW_FULL] = "too many requests wait",
 };
 
-/* Why a call refused, by the number below 0 that it returned, in a few words that last as long as the program; those
- * of its fault say more. They are "no error" for 0 and above, and "unknown error" for a number that no call returns. */
+/* A few words for the number below 0 by which a call refused; the words of its fault say more. For 0
+ * and above they are "no error", and for a number that no call returns "unknown error". They last as
+ * long as the program. */
 const char *pgmsg_strerror(int32_t number)
 {
     if (number >= 0)

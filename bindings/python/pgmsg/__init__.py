@@ -1,9 +1,9 @@
 """Messages of the PostgreSQL wire protocol, version 3, as a client and a server send and receive them.
 
-An interface to the library of pg_message.h, whose code is proved. It has no sockets. Each message is a class of its name
-in PostgreSQL's documentation, whose objects never change: `write` gives their bytes, and `read` makes one of a `Frame`. A
-`ClientStream` gives the messages of a server and a `ServerStream` those of a client, of bytes in pieces of any size; a
-`Relay` passes on those of either.
+An interface to the library of pg_message.h. It has no sockets. Each message is a class with the name that the message has in
+PostgreSQL's documentation. Its objects never change: `write` gives the bytes of one, and `read` makes one of a `Frame`. A
+`ClientStream` takes bytes in pieces of any size and gives the messages of a server, a `ServerStream` those of a client; a
+`Relay` passes on the messages of either.
 
     >>> from pgmsg import ClientStream, CommandComplete, Query, ReadyForQuery
     >>> Query("SELECT 1").write()
@@ -21,7 +21,7 @@ in PostgreSQL's documentation, whose objects never change: `write` gives their b
     SELECT 1
     IDLE
 
-What is refused is a `Fault`, with a code and words; where no memory is there, it is a `MemoryError`.
+A refusal raises a `Fault`, with a code and words, or a `MemoryError` where memory runs out.
 """
 
 from . import _library as _library  # first, since it loads what all others import

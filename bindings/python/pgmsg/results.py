@@ -104,7 +104,7 @@ class CommandComplete(BackendMessage, tag="C"):
 
     @property
     def rows_affected(self) -> int:
-        """How many rows the command had to do with: 0 where no number is there."""
+        """The number of rows at the end of the tag, or 0 where there is none."""
         count: int = command_in(self.command + b"\0").rows
         return count
 

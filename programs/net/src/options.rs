@@ -14,21 +14,21 @@ const FOLDERS: [&str; 2] = ["/var/run/postgresql", "/tmp"];
 /// Where clients connect, and with which threads they are served.
 #[derive(Args, Debug)]
 pub struct ListenOptions {
-    /// Accept connections on the Unix socket .s.PGSQL.LISTEN_PORT of this folder, and on no port
+    /// Accept connections on the Unix socket .s.PGSQL.LISTEN_PORT in this folder, and not on a TCP port
     #[arg(long, value_name = "FOLDER")]
     pub folder: Option<PathBuf>,
-    /// Accept connections there too: HOST:PORT, where a number of IPv6 stands in brackets, a PORT of 127.0.0.1, FOLDER:PORT
-    /// for a Unix socket, or the path of one. It can be given more than once
+    /// Accept connections at this address too: HOST:PORT, with an IPv6 address in brackets; a PORT of 127.0.0.1; FOLDER:PORT
+    /// for a Unix socket; or the path of one. Can be given more than once
     #[arg(long, value_name = "ADDRESS")]
     pub listen: Vec<Address>,
-    /// Accept TLS from clients that ask for it, or begin with it, by the certificate of this file and those that lead to
-    /// its root. Clients that don't are accepted without
+    /// Accept TLS from clients that ask for it or begin with it. The file has the server's certificate and those that lead to
+    /// its root. Clients that don't use TLS are accepted too
     #[arg(long, value_name = "FILE", requires = "key")]
     pub cert: Option<PathBuf>,
     /// The key of that certificate
     #[arg(long, value_name = "FILE", requires = "cert")]
     pub key: Option<PathBuf>,
-    /// Serve with so many threads, not with half as many as there are processors
+    /// The number of threads that serve clients [default: half the number of processors]
     #[arg(long, value_name = "N", value_parser = clap::value_parser!(u64).range(1..=THREADS_MOST))]
     pub threads: Option<u64>,
 }
@@ -87,18 +87,19 @@ impl ListenOptions {
 /// Where the server is, and how it is reached.
 #[derive(Args, Debug)]
 pub struct ServerOptions {
-    /// The server's host, or the folder of its Unix socket; PGHOST where it isn't said
+    /// The server's host, or the folder of its Unix socket [default: PGHOST, else a usual folder with the socket, else
+    /// localhost]
     #[arg(short = 'h', value_name = "HOST")]
     host: Option<String>,
-    /// The server's port; PGPORT where it isn't said, else 5432
+    /// The server's port [default: PGPORT, else 5432]
     #[arg(short = 'p', value_name = "PORT")]
     port: Option<String>,
-    /// Whether the connection to the server is encrypted, and its certificate verified, as libpq has it; PGSSLMODE where it
-    /// isn't said, else verify-full with the roots of the system, else disable
+    /// Whether the connection to the server is encrypted and its certificate verified, as in libpq [default: PGSSLMODE, else
+    /// verify-full with the roots of the system, else disable]
     #[arg(long, value_enum, value_name = "MODE")]
     sslmode: Option<SslMode>,
-    /// The trusted roots, in a file or by `system` those of the system, for verify-full alone; PGSSLROOTCERT where it isn't
-    /// said, else ~/.postgresql/root.crt
+    /// A file of trusted root certificates, or `system` for those of the system, which need verify-full [default:
+    /// PGSSLROOTCERT, else ~/.postgresql/root.crt]
     #[arg(long, value_name = "FILE")]
     sslrootcert: Option<PathBuf>,
 }

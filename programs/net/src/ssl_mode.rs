@@ -11,15 +11,15 @@ use std::path::{Path, PathBuf};
 pub enum SslMode {
     /// Never.
     Disable,
-    /// Where the server refuses the session without.
+    /// If the server refuses the session without encryption.
     Allow,
-    /// Where the server can, and doesn't refuse the session with it.
+    /// If the server offers it, unless it then refuses the session.
     Prefer,
-    /// Always. The server's certificate is verified as by verify-ca where there is a file of roots.
+    /// Always; if there is a file of roots, the server's certificate is verified as with verify-ca.
     Require,
     /// Always, with a certificate that leads to a trusted root.
     VerifyCa,
-    /// The same, with a certificate of the host that is named.
+    /// Always, with such a certificate for the host that is named.
     VerifyFull,
 }
 

@@ -13,20 +13,21 @@ pub const USAGE: &str =
        pg_record --print FILE [--trace[=whole] | --stream] [--numbers | --only NUMBER]";
 
 const ABOUT: &str = "\
-Passes connections on to the server at HOST and PORT, and records or prints what both sides say. Accepts them on the port \
-LISTEN_PORT of 127.0.0.1, a free one for 0, and at each address of --listen. Prints a line for each message of the server \
-where neither -o nor a kind of line is given.
+Passes connections on to the server at HOST and PORT, and records or prints what both sides send. Clients connect to port \
+LISTEN_PORT of 127.0.0.1 (0 takes a free port) and to each address of --listen. Without -o, --trace and --stream, the program \
+prints a line for each message of the server.
 
-With COMMAND the program accepts connections, by a free port where none is named, runs the command with PGHOST and PGPORT, and \
-ends when the command does, with its status: 128 and the number of a signal that ended it, 127 where there is no such command, \
-126 where it can't be run. Signals are passed on to the command. FILE gets its name at the end, if a session was recorded.";
+With COMMAND the program listens on a free port unless one is named, runs the command with PGHOST and PGPORT set to its own \
+address, and ends when the command ends, with the status of the command: 128 plus the number of the signal that ended it, 127 if \
+there is no such command, 126 if it can't be run. Signals are passed on to the command. FILE gets its name at the end, if a \
+session was recorded.";
 
 const AFTER: &str = "\
-Encryption: without --cert a request for it is answered by a no. With TLS on one side only, or with another certificate \
-than the server's towards clients, what a client would bind to isn't what the server has: SCRAM-SHA-256-PLUS is taken out \
-of the server's offer then. A client with TLS which could bind says so, and the server takes that for an attack, unless \
-the client has channel_binding=disable. With the server's own certificate and key by --cert and --key channel binding \
-passes. Requests to cancel are passed on, and counted at the end.";
+Encryption: without --cert or --encryption, clients that ask for encryption are told that there is none. Channel binding ties a \
+login to the certificate that the client sees. Where only one side uses TLS, or --cert isn't the server's own certificate, the \
+program therefore takes SCRAM-SHA-256-PLUS out of the server's offer. A client with TLS then reports that it could have used \
+channel binding, and the server refuses this as an attack, unless the client has channel_binding=disable. With the server's own \
+certificate and key as --cert and --key, channel binding works. Requests to cancel a query are passed on, and counted at the end.";
 
 /// What the arguments ask for.
 #[derive(Parser, Debug)]
@@ -34,6 +35,7 @@ passes. Requests to cancel are passed on, and counted at the end.";
 #[command(about = ABOUT, after_help = AFTER, override_usage = USAGE)]
 #[command(disable_help_flag = true)]
 pub struct RecordOptions {
+    /// The port of 127.0.0.1 to listen on, 0 for a free one; with --folder, the port in the name of the socket
     #[arg(value_name = "LISTEN_PORT", required_unless_present_any = ["print", "listen", "command"])]
     pub listen_port: Option<u16>,
     #[command(flatten)]
@@ -46,41 +48,41 @@ pub struct RecordOptions {
     /// Record both sides to a new file
     #[arg(short = 'o', value_name = "FILE")]
     pub output: Option<PathBuf>,
-    /// Have the recording take the place of FILE at the end, if a session was recorded
+    /// Replace an existing FILE at the end, if a session was recorded
     #[arg(long, requires = "output")]
     pub replace: bool,
-    /// Print messages of both sides as libpq's PQtrace does; bytes of control characters other than line feed and tab are
-    /// \x and two hexadecimal digits also in texts. With =whole first messages and the data of a COPY too, of which it
-    /// shows little
+    /// Print the messages of both sides as libpq's PQtrace does, but write control characters other than line feed and tab
+    /// as \x and two hexadecimal digits. With =whole, also print first messages and the data of a COPY in full, of which
+    /// PQtrace shows little
     #[arg(long, value_name = "whole", num_args = 0..=1, require_equals = true, default_missing_value = "")]
     #[arg(value_parser = style, overrides_with = "stream")]
     trace: Option<Style>,
-    /// Print them by their names, the fields in hexadecimal digits
+    /// Print the messages of both sides by their names, with their fields in hexadecimal digits
     #[arg(long, overrides_with = "trace")]
     stream: bool,
     /// Begin each line with the number of its connection
     #[arg(long)]
     pub numbers: bool,
-    /// Print the connection of that number alone
+    /// Print only the connection with this number
     #[arg(long, value_name = "NUMBER", value_parser = clap::value_parser!(u32).range(1..))]
     pub only: Option<u32>,
-    /// Don't leave out passwords and messages of SASL
+    /// Record passwords and the messages of SASL too
     #[arg(long)]
     pub passwords: bool,
-    /// Let the server answer requests for encryption, and pass on unread what is encrypted
+    /// Let the server answer requests for encryption, and pass encrypted bytes on unread
     #[arg(long, conflicts_with_all = ["cert", "sslmode"])]
     pub encryption: bool,
-    /// Go on when FILE can't be written any more, which ends all sessions else
+    /// Keep sessions going when FILE can't be written any more, instead of ending them
     #[arg(long)]
     pub keep_passing: bool,
-    /// Print a recording, as by --stream where not as by --trace
+    /// Print a recording, as --stream does or, with --trace, as --trace does
     #[arg(long, value_name = "FILE", conflicts_with_all = ["output", "listen_port", "listen"])]
     pub print: Option<PathBuf>,
-    /// What is run, with its arguments
+    /// The command to run, with its arguments
     #[arg(last = true, value_name = "COMMAND", requires = "output")]
     #[arg(conflicts_with_all = ["is_single", "trace", "stream"])]
     pub command: Vec<OsString>,
-    /// Print this
+    /// Print this help
     #[arg(long, action = clap::ArgAction::Help)]
     help: Option<bool>,
 }

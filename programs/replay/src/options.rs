@@ -16,88 +16,87 @@ const FORM: &str = "pg_replay [OPTION..] FILE [LISTEN_PORT] -- COMMAND [ARGUMENT
 pub const USAGE: &str = "usage: pg_replay [OPTION..] FILE [LISTEN_PORT] -- COMMAND [ARGUMENT..]
        pg_replay [OPTION..] FILE LISTEN_PORT";
 
-/// Serves the recording FILE of pg_record: answers each client as the server did, and compares what it says with what was
-/// recorded.
+/// Serves FILE, a recording of pg_record: answers each client as the server did, and compares what the client sends with
+/// what was recorded.
 ///
-/// A client goes on with the next exchange of the connection whose Startup it said; where that differs, and it is outside
-/// of a transaction, with the first exchange of any connection that is the same and that no client had. Names of
-/// statements, portals, cursors and savepoints may differ, and settings may come in any order. No password is asked for
-/// where none is named. Ends when all connections are replayed, or at a difference, with status 11, after both messages
-/// are printed, and the rule that would let them differ.
+/// A client follows the recorded connection that began with the same Startup. Where it sends something else outside of a
+/// transaction, it gets the first exchange of any connection that is the same and that no client has taken. Names of
+/// statements, portals, cursors and savepoints may differ, and settings may come in any order. Clients need no password,
+/// unless --scram names one. The program ends when all connections are replayed. At a difference it prints both messages
+/// and the rule that would allow the difference, and ends with status 11.
 ///
-/// With COMMAND the program serves on a free port where none is named, runs the command with PGHOST and PGPORT, and ends when
-/// the command does: with status 11 or 12 where a client has differed or was refused, else with the command's, which is 128
-/// and the number of a signal that ended it, 127 where there is no such command, 126 where it can't be run. Signals are passed
-/// on to the command. --any-order, --again, --go-on and --strict are in force then, each unless it is given with `=false`;
-/// with --record-missing or --record-all, --strict isn't.
+/// With COMMAND the program listens on a free port unless one is named, runs the command with PGHOST and PGPORT set to its own
+/// address, and ends when the command ends: with status 11 or 12 if a client differed or was refused, else with the status
+/// of the command, which is 128 plus the number of the signal that ended it, 127 if there is no such command, 126 if it can't
+/// be run. Signals are passed on to the command. The options --any-order, --again, --go-on and --strict are then in force,
+/// each unless it is given with `=false`; --strict isn't with --record-missing or --record-all.
 ///
-/// Messages up to a mebibyte are compared so; longer ones have to be as recorded.
+/// Messages of more than a mebibyte must be exactly as recorded.
 #[derive(Parser, Debug)]
 #[command(name = "pg_replay", version = concat!(env!("CARGO_PKG_VERSION"), " plain build"))]
 #[command(override_usage = FORM, disable_help_flag = true)]
 pub struct ReplayOptions {
     /// The recording
     pub file: PathBuf,
-    /// A port of 127.0.0.1 to serve on, a free one for 0; with --folder, that of its socket's name
+    /// The port of 127.0.0.1 to serve on, 0 for a free one; with --folder, the port in the name of the socket
     pub listen_port: Option<u16>,
     #[command(flatten)]
     pub listening: ListenOptions,
-    /// Asks each client by SCRAM-SHA-256 for the password that is the first line of FILE
+    /// Ask each client, by SCRAM-SHA-256, for the password in the first line of FILE
     #[arg(long, value_name = "FILE")]
     pub scram: Option<PathBuf>,
-    /// What may differ, in TOML: `[[replace]]` pattern, with; `[[parameter]]` statement, positions; `[[ignore]]` statement,
-    /// command; `[settings]` ignore
+    /// A TOML file that says what may differ, in the tables `[[replace]]` (pattern, with), `[[parameter]]` (statement,
+    /// positions), `[[ignore]]` (statement, command) and `[settings]` (ignore)
     #[arg(long, value_name = "FILE")]
     rules: Option<PathBuf>,
-    /// A setting of the Startup may differ, or be missing
+    /// This setting of the Startup may differ or be missing
     #[arg(long, value_name = "NAME")]
     any_setting: Vec<String>,
     /// The value of parameter N of each Bind may differ; the first is 1
     #[arg(long, value_name = "N", value_parser = clap::value_parser!(u16).range(1..))]
     any_parameter: Vec<u16>,
-    /// Literals of this kind may differ in the text of SQL
+    /// Literals of this kind may differ in SQL
     #[arg(long, value_name = "KIND", value_enum)]
     any_literal: Vec<LiteralKind>,
-    /// With --again: a connection is served again as soon as its client is gone, for which another one waits some seconds
+    /// With --again, serve a connection again as soon as its client has left; another client waits some seconds for that
     #[arg(long, value_name = "BOOL", num_args = 0..=1, require_equals = true, default_missing_value = "true")]
     #[arg(hide_possible_values = true, overrides_with = "any_order")]
     any_order: Option<bool>,
-    /// Answers as long after a message as the server did, and not at once
+    /// Answer as long after a message as the server did, instead of at once
     #[arg(long)]
     pub speed: bool,
-    /// Takes silence for a difference where the recorded client had sent more
+    /// Report a difference when a client sends nothing for so many seconds although the recorded one sent more
     #[arg(long, value_name = "SECONDS", value_parser = clap::value_parser!(u32).range(..=86400))]
     patience: Option<u32>,
-    /// Serves on after a difference. Within a transaction that was rolled back its client goes on too: what it says is refused, as
-    /// by a server once a statement has failed, until it rolls back as recorded
+    /// Keep serving after a difference. In a transaction that was rolled back in the recording the client that differed goes
+    /// on too: its messages are refused, as by a server after a failed statement, until it rolls back
     #[arg(long, value_name = "BOOL", num_args = 0..=1, require_equals = true, default_missing_value = "true")]
     #[arg(hide_possible_values = true, overrides_with = "go_on")]
     go_on: Option<bool>,
-    /// Refuses a request that fits two recorded ones with different answers, where nothing tells which one the client means,
-    /// and ends with status 12; without it, a line says so. A signal ends the program with status 11 or 12 then, too, where
-    /// a client has differed or was refused. `--strict=false` after it takes it back
+    /// Refuse a request that fits two recorded ones with different answers, when nothing tells which one the client means,
+    /// and end with status 12; without this option a line names both. After a signal, too, the program ends with status 11
+    /// or 12 if a client differed or was refused. `--strict=false` takes the option back
     #[arg(long, value_name = "BOOL", num_args = 0..=1, require_equals = true, default_missing_value = "true")]
     #[arg(hide_possible_values = true, overrides_with = "strict")]
     strict: Option<bool>,
-    /// Serves the recording again when all of it is replayed
+    /// Serve the recording again when all of it is replayed
     #[arg(long, value_name = "BOOL", num_args = 0..=1, require_equals = true, default_missing_value = "true")]
     #[arg(hide_possible_values = true, overrides_with = "again")]
     again: Option<bool>,
-    /// Passes on to the server at HOST and PORT what isn't recorded, and records it. A session that goes on otherwise than the
-    /// recorded one goes on with the server, which hears first what the client said before; it takes the place of that one.
-    /// FILE, which may be missing, has the new sessions when a signal ends the program. Where there is no server a difference
-    /// is one
+    /// Pass what isn't recorded on to the server at HOST and PORT, and record it. When a session departs from the recorded
+    /// one, the server first gets what the client sent before, and the new session replaces the recorded one. FILE, which may
+    /// be missing, has the new sessions when the program ends. Without a server, a difference is reported as usual
     #[arg(long, conflicts_with_all = ["record_all", "scram"])]
     record_missing: bool,
-    /// The same with all that clients say, as if nothing were recorded
+    /// The same for all that clients send, as if nothing were recorded
     #[arg(long, conflicts_with = "scram")]
     record_all: bool,
     #[command(flatten)]
     pub server: ServerOptions,
-    /// What is run, with its arguments
+    /// The command to run, with its arguments
     #[arg(last = true, value_name = "COMMAND")]
     pub command: Vec<OsString>,
-    /// Print this
+    /// Print this help
     #[arg(long, action = clap::ArgAction::Help)]
     help: Option<bool>,
 }

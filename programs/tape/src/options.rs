@@ -6,10 +6,9 @@ use std::path::PathBuf;
 
 /// Exports, imports, edits, compares, checks, redacts and shows recordings of pg_record.
 ///
-/// Ends with 0; with 1 where two recordings differ; with 2 for wrong arguments or rules; with 7 where a file can't be read
-/// or written; with 10 where a recording, or an export of one, has a fault; with 13 where a recording from which secrets were
-/// taken may have more; with 14 where a session breaks the order of the protocol. A file that is written has its name only when all of it is there, and takes the place of one of that
-/// name, unless another program has changed that one meanwhile.
+/// Ends with status 0; 1 if two recordings differ; 2 for wrong arguments or rules; 7 if a file can't be read or written; 10 if a
+/// recording, or an export of one, is damaged; 13 if a redacted recording may have more secrets; 14 if a session breaks the order of the protocol. An output file gets its name
+/// when all of it is written, and replaces a file of that name, unless another program has changed that file meanwhile.
 #[derive(Parser, Debug)]
 #[command(name = "pg_tape", version = concat!(env!("CARGO_PKG_VERSION"), " plain build"))]
 #[command(disable_help_subcommand = true)]
@@ -22,9 +21,9 @@ pub struct TapeOptions {
 pub enum Command {
     /// Writes a recording as JSON Lines, a message a line
     ///
-    /// The lines are those of recording.schema.json: connection, time in microseconds, side, kind by the name in PostgreSQL's
-    /// documentation, and the fields of the kind. Bytes that are no text are {"base64": ".."}. `import` makes the same
-    /// bytes of them.
+    /// recording.schema.json describes the lines: the connection, the time in microseconds, the side, the kind by its name in
+    /// PostgreSQL's documentation, and the fields of the kind. Bytes that are no text are {"base64": ".."}. `import` makes
+    /// the same recording of the lines.
     Export {
         /// The recording
         tape: PathBuf,
@@ -34,8 +33,9 @@ pub enum Command {
     },
     /// Makes a recording of JSON Lines that were exported
     ///
-    /// A fault in them is named by its line, and no recording is written then. `apart` says that a record begins with a
-    /// message; `here`, that only so many of its bytes are in a record, and that lines of the kind Continued follow.
+    /// If a line has a fault, the program names the line and writes no recording. `apart` says that a new record begins with
+    /// the message; `here`, how many bytes of the message are in this record, the rest of which lines of the kind Continued
+    /// hold.
     Import {
         /// The lines
         file: PathBuf,
@@ -45,7 +45,7 @@ pub enum Command {
     },
     /// Joins recordings to one
     ///
-    /// Records stand in the order of their times, and connections are numbered anew in the order in which they are opened.
+    /// Records are sorted by their times, and connections numbered anew in the order in which they were opened.
     Merge {
         /// The recordings
         #[arg(required = true, value_name = "TAPE")]
@@ -72,19 +72,19 @@ pub enum Command {
     },
     /// Writes each session of a recording to a file of its own
     ///
-    /// The files are named after the connections, as 000012.tape. None that is there is written over.
+    /// The files are named after the connections, as 000012.tape. No existing file is overwritten.
     Split {
         /// The recording
         tape: PathBuf,
-        /// The folder of the files, which is made where it isn't there
+        /// The folder for the files, which is made if it is missing
         #[arg(short = 'o', long = "output", value_name = "FOLDER")]
         folder: PathBuf,
     },
     /// Compares two recordings exchange by exchange
     ///
-    /// Prints what differs in what clients say and in how they are answered: lines that begin with `-` are of the first
-    /// recording alone, those with `+` of the second. Connections of one number are compared. Times, addresses, passwords and
-    /// keys may differ. Ends with 1 where something differs. Both recordings are held in memory.
+    /// Prints the differences in what clients send and in the answers: lines that begin with `-` are only in the first
+    /// recording, lines that begin with `+` only in the second. Connections with the same number are compared. Times, addresses,
+    /// passwords and keys may differ. Ends with status 1 if something differs. Both recordings are held in memory.
     Diff {
         /// A recording
         #[arg(value_name = "TAPE")]
@@ -107,13 +107,13 @@ pub enum Command {
     },
     /// Takes secrets out of a recording
     ///
-    /// A file of rules in TOML, in which those of a replay are passed over, says which: `[[redact.column]]` name;
-    /// `[[redact.parameter]]` statement, positions; `[[redact.statement]]` pattern, for the literals and the parameters of
-    /// statements that it matches; `[[redact.text]]` pattern, for its first group or all that it matches in any text or
-    /// value, names among them. Without a rule passwords are found that SQL or a login has, verifiers by SCRAM-SHA-256 and
-    /// MD5, and keys of BackendKeyData and CancelRequest. In the place of a password stands `xxxxxxxx`, and in that of any
-    /// other secret a value of its length and type, wherever the secret stands in the recording. Says which rules matched
-    /// nothing, and how many values can't be told from secrets: then it ends with 13.
+    /// Without rules, the passwords in SQL and in logins are masked, verifiers of SCRAM-SHA-256 and MD5, and the keys of
+    /// BackendKeyData and CancelRequest. A TOML file of rules, which may also have those of a replay, names other secrets:
+    /// `[[redact.column]]` (name); `[[redact.parameter]]` (statement, positions); `[[redact.statement]]` (pattern) for the
+    /// literals and parameters of the statements that the pattern matches; `[[redact.text]]` (pattern) for the first group of
+    /// the pattern, or all of its match, in any text, name or value. A password becomes `xxxxxxxx`, and any other secret a value
+    /// of its length and type, wherever the secret stands in the recording. The program says which rules matched nothing.
+    /// It says how many values may still be secrets, and then ends with status 13.
     Redact {
         /// The recording
         tape: PathBuf,
@@ -126,8 +126,8 @@ pub enum Command {
     },
     /// Makes a page in HTML that shows a recording
     ///
-    /// It is one file that asks no network for anything: connections as lanes over time, the messages with their fields, and
-    /// the exchanges, the slowest first. Secrets of the recording are in it.
+    /// The page is one file that needs no network. It has connections as lanes over time, the messages with their fields, and the
+    /// exchanges, the slowest first. It contains the secrets of the recording.
     View {
         /// The recording
         tape: PathBuf,

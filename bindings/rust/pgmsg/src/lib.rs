@@ -1,12 +1,15 @@
 //! Messages of the PostgreSQL wire protocol, version 3, as a client and a server send and receive them.
 //!
 //! This crate stands on the message layer of the project Tarnwhisk, `pgmsg_core`, whose sources are proved; here they
-//! are plain Rust without `unsafe`. It has no sockets: a [`Decoder`] cuts a
-//! stream into its messages, without copying them; a [`Connection`] says which message may be sent now, and which
-//! request each answer is of; [`backend::Message`] and [`frontend::Message`] are any
-//! message of a server and of a client, borrowed of its bytes, to be read and to be written; a
-//! [`relay::Relay`] passes the bytes of either side on; [`replication::Message`] is what a CopyData says of the log
-//! or of a backup; [`scram`] answers for the password.
+//! are plain Rust without `unsafe`. It has no sockets:
+//!
+//! - A [`Decoder`] cuts a stream into its messages, without copying them.
+//! - A [`Connection`] says which message may be sent now, and which request an answer is of.
+//! - [`backend::Message`] is any message of a server and [`frontend::Message`] any message of a client, to read and to
+//!   write; it borrows its bytes.
+//! - A [`relay::Relay`] passes on the bytes of either side.
+//! - A [`replication::Message`] is the data of a CopyData in replication.
+//! - [`scram`] logs in with a password.
 //!
 //! ```
 //! use pgmsg::{backend, frontend, Decoder};
@@ -26,19 +29,19 @@
 //!
 //! # Errors
 //!
-//! A call that writes fails with a [`Refusal`] and leaves the messages that were written before.
+//! A call that writes fails with a [`Refusal`], and leaves in the buffer the messages that were written before.
 //! A call that reads fails with a [`Fault`]: a [`Refusal`], the offset of the fault, and words.
 //! Both can be made a `std::io::Error`. No input makes a call panic.
 //!
 //! # Features
 //!
-//! - `std`, a default, makes errors `std::io::Error`s too; without it the crate needs `alloc` alone.
-//! - `bytes` makes a `BytesMut` something that messages are appended to.
+//! - `std`, a default, converts errors to `std::io::Error`; without it the crate needs only `alloc`.
+//! - `bytes` appends messages to a `BytesMut`.
 //! - `codec` has codecs of `tokio_util` for both sides.
-//! - `serde` has statuses, severities, refusals, faults and owned messages serialized and deserialized.
+//! - `serde` serializes and deserializes statuses, severities, refusals, faults and owned messages.
 //! - `sha2` has a hash for [`scram`], by the crates sha2 and hmac.
 //!
-//! It needs Rust 1.87.
+//! The crate needs Rust 1.87.
 
 #![no_std]
 #![forbid(unsafe_code)]

@@ -15,8 +15,8 @@ pub(super) fn read_command(body: &[u8]) -> Result<ByteStr<'_>, Fault> {
     Ok(ByteStr(command_tag(checked(body)?)?))
 }
 
-/// How many rows a command had to do with, by its tag: the number after the last space, and 0 where there
-/// is none.
+/// The number of rows that a command returned or changed, by its tag: the number after the last space, or 0 where
+/// there is none.
 ///
 /// ```
 /// # use pgmsg::backend::rows_affected;

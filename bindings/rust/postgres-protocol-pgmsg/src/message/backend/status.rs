@@ -35,7 +35,7 @@ impl BackendKeyDataBody {
 body! {
     /// The end of a command.
     CommandCompleteBody as b'C', {
-        /// The name of the command, and how many rows it had to do with.
+        /// The tag of the command: its name, and mostly a number of rows.
         tag(self) -> io::Result<&str> = text(ByteStr(self.0.strip_suffix(b"\0").unwrap_or_default()));
     }
 }
