@@ -4,6 +4,7 @@ use crate::body::checked;
 use crate::error::{Fault, Refusal};
 use crate::list::List;
 use crate::value::Value;
+use alloc::vec;
 use alloc::vec::Vec;
 use core::fmt;
 use core::ops::Range;
@@ -11,6 +12,9 @@ use pgmsg_core::pg_receive::message::{cell_at, RowReader};
 
 /// Where the first cell begins, after the count.
 const FIRST_CELL: usize = 2;
+
+/// The bytes of a cell's length.
+const LENGTH: usize = 4;
 
 /// Reads the body of a DataRow.
 pub(crate) fn read(body: &[u8]) -> Result<List<'_, Value<'_>>, Fault> {
@@ -31,15 +35,6 @@ pub struct Cell {
 }
 
 impl Cell {
-    /// The place of a value that ends at an offset.
-    #[inline(always)]
-    fn new(end: usize, value: Option<&[u8]>) -> Cell {
-        match value {
-            Some(value) => Cell { at: (end - value.len()) as u32, len: value.len() as i32 },
-            None => Cell { at: end as u32, len: -1 },
-        }
-    }
-
     /// Where the value lies in the body, or `None` where it is NULL.
     #[inline]
     pub fn range(&self) -> Option<Range<usize>> {
@@ -92,7 +87,7 @@ impl RowIndex {
 
     /// A reader with room for rows of so many cells.
     pub fn with_capacity(cells: usize) -> RowIndex {
-        RowIndex { cells: Vec::with_capacity(cells) }
+        RowIndex { cells: vec![Cell::default(); cells] }
     }
 
     /// Reads the body of a DataRow.
@@ -101,16 +96,46 @@ impl RowIndex {
     #[inline]
     pub fn read<'b>(&mut self, body: &'b [u8]) -> Result<Row<'b, '_>, Fault> {
         let count = RowReader::new(checked(body)?)?.len();
-        self.cells.clear();
-        self.cells.try_reserve(count).map_err(|_| Refusal::OutOfMemory)?;
-        let mut at = FIRST_CELL;
-        for _ in 0..count {
-            let (value, end) = cell_at(body, at)?;
-            self.cells.push(Cell::new(end, value));
-            at = end;
+        if count > self.cells.len() {
+            self.grow(count)?;
         }
-        Ok(Row { body, cells: &self.cells })
+        let cells = &mut self.cells[..count];
+        let (found, at) = find(body, cells);
+        if found < count {
+            cell_at(body, at)?;
+        }
+        Ok(Row { body, cells })
     }
+
+    /// Makes room for rows of so many cells.
+    #[cold]
+    fn grow(&mut self, cells: usize) -> Result<(), Refusal> {
+        let missing = cells - self.cells.len();
+        self.cells.try_reserve(missing).map_err(|_| Refusal::OutOfMemory)?;
+        self.cells.resize(cells, Cell::default());
+        Ok(())
+    }
+}
+
+/// Finds the cells of a row, up to one that is broken: how many they are, and the offset after them. It makes one test
+/// for each, where the core's reader makes two.
+#[inline]
+fn find(body: &[u8], room: &mut [Cell]) -> (usize, usize) {
+    let (mut found, mut at) = (0, FIRST_CELL);
+    for place in room {
+        let Some(length) = body.get(at..).and_then(<[u8]>::first_chunk) else { break };
+        let (len, start) = (i32::from_be_bytes(*length), at + LENGTH);
+        // A length below 0, which says NULL, is beyond every body without its sign.
+        let end = start as u64 + u64::from(len.cast_unsigned());
+        at = match end <= body.len() as u64 {
+            true => end as usize,
+            false if len < 0 => start,
+            false => break,
+        };
+        *place = Cell { at: start as u32, len };
+        found += 1;
+    }
+    (found, at)
 }
 
 /// A row: for each column the bytes of its value, or `None` where it is NULL.
