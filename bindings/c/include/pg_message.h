@@ -304,7 +304,7 @@ typedef struct {
     size_t value_len;
 } pgmsg_setting;
 
-/* The value of a parameter, or of a row. Where `is_null`, its bytes aren't looked at. */
+/* The value of a parameter, or of a row. Where `is_null` is true, the bytes aren't looked at. */
 typedef struct {
     const uint8_t *bytes;
     size_t bytes_len;
@@ -364,15 +364,15 @@ typedef struct {
     pgmsg_span secret_key;
 } pgmsg_key_data;
 
-/* What a command has done: the text of its tag, such as `INSERT 0 1`, and how many rows it had to
- * do with, which is the number after the last space, and 0 where there is none. */
+/* What a command has done: the text of its tag, such as `INSERT 0 1`, and the number of rows, which
+ * is the number after the last space of the tag, or 0 where there is none. */
 typedef struct {
     pgmsg_span tag;
     uint64_t rows;
 } pgmsg_command;
 
-/* How the data of a COPY is spelled: 0 for text, 1 for binary. `columns` may be below 0, which
- * means none. */
+/* The format of the data of a COPY, 0 for text and 1 for binary, and the number of columns, which
+ * may be below 0 for none. */
 typedef struct {
     int8_t format;
     int16_t columns;
@@ -676,7 +676,7 @@ typedef struct {
 } pgmsg_relay;
 
 /* What is at the front of a stream. `length` bytes of it go out together; where more bytes are
- * needed, it is how many at least. `tag` is 0 of a first message. */
+ * needed, it is how many at least. `tag` is 0 for a first message. */
 typedef struct {
     uint8_t tag;
     size_t length;
@@ -751,13 +751,13 @@ ptrdiff_t pgmsg_put_cancel_request(uint32_t process_id, const uint8_t *secret_ke
 ptrdiff_t pgmsg_put_password(const uint8_t *password, size_t password_len, uint8_t *out,
     size_t out_len);
 
-/* A PasswordMessage that answers a request for an MD5 digest: the digest of the salt after the
- * digest, in hexadecimal, of the user's name after the password. */
+/* A PasswordMessage that answers a request for an MD5 digest. First take the digest of the password
+ * with the user's name after it; `digest` is that of the hexadecimal digits of this one with the
+ * salt after them. */
 ptrdiff_t pgmsg_put_md5_password(const uint8_t digest[16], uint8_t *out, size_t out_len);
 
 /* A SASLInitialResponse: chooses a mechanism of SASL, such as `SCRAM-SHA-256`, and begins it with
- * `response`. Where not `has_response`, the server begins. A mechanism that holds a NUL is
- * refused. */
+ * `response`. Without `has_response` the server begins. A mechanism that holds a NUL is refused. */
 ptrdiff_t pgmsg_put_sasl_initial(const uint8_t *mechanism, size_t mechanism_len, bool has_response,
     const uint8_t *response, size_t response_len, uint8_t *out, size_t out_len);
 
@@ -785,9 +785,9 @@ ptrdiff_t pgmsg_put_bind(const uint8_t *portal, size_t portal_len, const uint8_t
     size_t values_len, const uint16_t *result_formats, size_t result_formats_len, uint8_t *out,
     size_t out_len);
 
-/* A Describe of a prepared statement, where `kind` is `S`, or of a portal, where it is `P`; of
- * others it is refused with PGMSG_UNKNOWN_TARGET. So is then a name that holds a NUL, as a text
- * that holds one. */
+/* A Describe of a prepared statement, where `kind` is `S`, or of a portal, where it is `P`. Another
+ * `kind` is refused with PGMSG_UNKNOWN_TARGET, and then a name that holds a NUL with
+ * PGMSG_TEXT_HOLDS_NUL. */
 ptrdiff_t pgmsg_put_describe(uint8_t kind, const uint8_t *name, size_t name_len, uint8_t *out,
     size_t out_len);
 
@@ -820,30 +820,30 @@ int32_t pgmsg_put_copy_head(size_t len, uint8_t head[5]);
  * PGMSG_UNKNOWN_MESSAGE_TYPE. */
 ptrdiff_t pgmsg_put_no_body(uint8_t tag, uint8_t *out, size_t out_len);
 
-/* The name of the prepared statement of a number N, which is `sqlx_s_N`, and no byte for 0: its
- * length without a NUL. It is written with the NUL that ends it, where `out` is longer than the
- * name. */
+/* The name of the prepared statement with a number N: `sqlx_s_N`, or no byte for 0. Returns its
+ * length without a NUL. Where `out` is longer than the name, the name is written with the NUL that
+ * ends it. */
 size_t pgmsg_put_statement_name(uint32_t number, uint8_t *out, size_t out_len);
 
-/* The name of the portal of a number N, which is `sqlx_p_N`, and no byte for 0, as
+/* The name of the portal with a number N: `sqlx_p_N`, or no byte for 0, as
  * `pgmsg_put_statement_name` writes that of a statement. */
 size_t pgmsg_put_portal_name(uint32_t number, uint8_t *out, size_t out_len);
 
-/* How many bytes at the front of a text are UTF-8: its length where all of it is, else where the
- * first character begins that isn't. */
+/* How many bytes at the front of a text are UTF-8: the length of the text where all of it is, else
+ * the offset of the first character that isn't. */
 size_t pgmsg_check_utf8(const uint8_t *text, size_t text_len);
 
 /* The message at the front of a stream, of any tag: 1 where it is whole, 0 where more bytes are
- * needed. Then `tag` is given as soon as there is a byte. Refused where its length is below 4:
- * then, whatever comes next. */
+ * needed; then `tag` is given as soon as its byte is there. A length below 4 is refused, whatever
+ * bytes come after it. */
 int32_t pgmsg_next_frame(const uint8_t *stream, size_t stream_len, pgmsg_frame *frame,
     pgmsg_fault *fault);
 
 /* The messages at the front of a stream, of any tag, each as `pgmsg_next_frame` gives it, with
- * places in the whole stream: how many are given. As many as are whole and there is room for are
- * written; the first of the others begins where the lengths of these end. Refused where there is
- * room for a message, and the length of the very first is below 4; such a length after others only
- * ends them. */
+ * places in the whole stream. Returns how many were written: as many as are whole and have room in
+ * `frames`. The next message begins where the lengths of these end. Where there is room for a
+ * message and the length of the very first is below 4, the call refuses; such a length after other
+ * messages only ends them. */
 ptrdiff_t pgmsg_next_frames(const uint8_t *stream, size_t stream_len, pgmsg_frame *frames,
     size_t frames_len, pgmsg_fault *fault);
 
@@ -867,9 +867,9 @@ ptrdiff_t pgmsg_read_parameter_types(const uint8_t *body, size_t body_len, uint3
 size_t pgmsg_read_fields(const uint8_t *body, size_t body_len, pgmsg_field *fields,
     size_t fields_len);
 
-/* How grave an error or a notice is: 0 PANIC, 1 FATAL, 2 ERROR, 3 WARNING, 4 NOTICE, 5 DEBUG, 6
- * INFO, 7 LOG. Refused with PGMSG_NOTICE_NOT_UTF8 where its message or its code isn't UTF-8: a body
- * that has its field `V` alone is read in any encoding. */
+/* The severity of an error or a notice: 0 PANIC, 1 FATAL, 2 ERROR, 3 WARNING, 4 NOTICE, 5 DEBUG, 6
+ * INFO, 7 LOG. Where the message or the code isn't UTF-8, the call refuses with
+ * PGMSG_NOTICE_NOT_UTF8; a body of the field `V` alone is read in any encoding. */
 int32_t pgmsg_read_severity(const uint8_t *body, size_t body_len, pgmsg_fault *fault);
 
 /* A notification, by the body of its NotificationResponse. 0, or why it is refused. */
@@ -893,7 +893,7 @@ int32_t pgmsg_read_command_complete(const uint8_t *body, size_t body_len, pgmsg_
  * in one, E in one that has failed. */
 int32_t pgmsg_read_ready(const uint8_t *body, size_t body_len, pgmsg_fault *fault);
 
-/* How the data of a COPY is spelled, by the body of a CopyInResponse, a CopyOutResponse or a
+/* The format of the data of a COPY, by the body of a CopyInResponse, a CopyOutResponse or a
  * CopyBothResponse: how many columns have a code. As many codes as there is room for are
  * written. */
 ptrdiff_t pgmsg_read_copy_response(const uint8_t *body, size_t body_len,
@@ -940,15 +940,15 @@ ptrdiff_t pgmsg_read_end(uint8_t tag, const uint8_t *body, size_t body_len, pgms
 
 /* The first message of a connection at the front of a stream, or the one after an SSLRequest or a
  * GSSENCRequest: 1 where it is whole, 0 where more bytes are needed. It has no tag: where it is
- * whole, `tag` is 0, and `length` that of its length and its body. Refused where its length is
- * below 8, or above `limit`, which is PGMSG_MAX_FIRST_LENGTH for PostgreSQL's own servers: then,
- * whatever comes next. */
+ * whole, `tag` is 0, and `length` that of its length and its body. A length below 8 or above
+ * `limit`, which is PGMSG_MAX_FIRST_LENGTH for PostgreSQL's own servers, is refused, whatever bytes
+ * come after it. */
 int32_t pgmsg_next_first_frame(const uint8_t *stream, size_t stream_len, size_t limit,
     pgmsg_frame *frame, pgmsg_fault *fault);
 
 /* The message at the front of a stream from a client, after the first ones: 1 where it is whole, 0
- * where more bytes are needed. Then `tag` is given as soon as there is a byte. Refused where no
- * message from a client has this tag, or its length is below 4: then, whatever comes next. */
+ * where more bytes are needed; then `tag` is given as soon as its byte is there. A tag that no
+ * message from a client has, or a length below 4, is refused, whatever bytes come after it. */
 int32_t pgmsg_next_frontend_frame(const uint8_t *stream, size_t stream_len, pgmsg_frame *frame,
     pgmsg_fault *fault);
 
@@ -1140,15 +1140,15 @@ ptrdiff_t pgmsg_put_logical(const pgmsg_logical_text *message, uint8_t *out, siz
 
 /* What is at the front of a stream that is passed on: 1 for a whole message that is wanted whole,
  * or a first one; 2 for the next bytes of one that isn't; 0 where more bytes are needed. Messages
- * with a tag are wanted whole where `wanted` has no 0 at the tag; a first message always is. Of a
- * message that goes on in parts `tag` stays. Refused where the length of the next message is below
- * 4, or below 8 of a first one, or where it is wanted whole and is longer than `limit`. */
+ * with a tag are wanted whole where `wanted` has no 0 at the tag; a first message always is. While
+ * a message goes on in parts, `tag` stays as it is. The call refuses a length below 4, or below 8
+ * for a first message, and a message that is wanted whole and is longer than `limit`. */
 int32_t pgmsg_relay_next(pgmsg_relay *relay, const uint8_t wanted[256], const uint8_t *stream,
     size_t stream_len, pgmsg_passage *passage, pgmsg_fault *fault);
 
-/* Whether bytes are whole messages one after the other, so that they may be added to a stream: 0,
- * and `is_first`, which says whether a first message comes next, is what comes after them. Refused
- * where they aren't. */
+/* Whether bytes are whole messages one after the other, so that they may be added to a stream.
+ * `is_first` says whether the first of them is a first message. Where they are, the call returns 0
+ * and sets `is_first` for what comes after them; else it refuses. */
 int32_t pgmsg_check_frames(const uint8_t *bytes, size_t bytes_len, bool *is_first,
     pgmsg_fault *fault);
 

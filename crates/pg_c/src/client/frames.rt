@@ -21,8 +21,8 @@ pub const MAX_FIRST_LENGTH: i32 = 10004;
 
 /// The first message of a connection at the front of a stream, or the one after an SSLRequest or a
 /// GSSENCRequest: 1 where it is whole, 0 where more bytes are needed. It has no tag: where it is whole,
-/// `tag` is 0, and `length` that of its length and its body. Refused where its length is below 8, or above `limit`,
-/// which is PGMSG_MAX_FIRST_LENGTH for PostgreSQL's own servers: then, whatever comes next.
+/// `tag` is 0, and `length` that of its length and its body. A length below 8 or above `limit`, which is
+/// PGMSG_MAX_FIRST_LENGTH for PostgreSQL's own servers, is refused, whatever bytes come after it.
 #[unsafe(no_mangle)]
 pub extern "C" fn pgmsg_next_first_frame(
     alloc: Global,
@@ -78,8 +78,8 @@ fn needed_first(stream: &[u8]) -> usize
 }
 
 /// The message at the front of a stream from a client, after the first ones: 1 where it is whole, 0 where
-/// more bytes are needed. Then `tag` is given as soon as there is a byte. Refused where no message from a
-/// client has this tag, or its length is below 4: then, whatever comes next.
+/// more bytes are needed; then `tag` is given as soon as its byte is there. A tag that no message from a client has, or
+/// a length below 4, is refused, whatever bytes come after it.
 #[unsafe(no_mangle)]
 #[tactic(auto, using(crate::proofs::ClientFramesLemmas::needs_tagged))]
 pub extern "C" fn pgmsg_next_frontend_frame(

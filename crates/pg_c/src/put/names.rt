@@ -1,4 +1,4 @@
-//! The numbered names that sqlx gives, for who wants them, and which texts are UTF-8.
+//! The numbered names that sqlx gives, for callers that use them, and which texts are UTF-8.
 
 ghost use Rattle.std.specs.Prelude.{◌≡◌, length};
 ghost use Rattle.std.specs.Str.Lossy.{utf8_valid_len};
@@ -27,8 +27,8 @@ impl<N: Name> Encodable for EndedName<N> {
     }
 }
 
-/// The name of the prepared statement of a number N, which is `sqlx_s_N`, and no byte for 0: its length
-/// without a NUL. It is written with the NUL that ends it, where `out` is longer than the name.
+/// The name of the prepared statement with a number N: `sqlx_s_N`, or no byte for 0. Returns its length without
+/// a NUL. Where `out` is longer than the name, the name is written with the NUL that ends it.
 #[unsafe(no_mangle)]
 pub extern "C" fn pgmsg_put_statement_name(number: u32, out: &mut [u8]) -> usize
     ensures length { result ≡ length (name statement_prefix number) }
@@ -40,8 +40,8 @@ pub extern "C" fn pgmsg_put_statement_name(number: u32, out: &mut [u8]) -> usize
     len - 1
 }
 
-/// The name of the portal of a number N, which is `sqlx_p_N`, and no byte for 0, as
-/// `pgmsg_put_statement_name` writes that of a statement.
+/// The name of the portal with a number N: `sqlx_p_N`, or no byte for 0, as `pgmsg_put_statement_name` writes that
+/// of a statement.
 #[unsafe(no_mangle)]
 pub extern "C" fn pgmsg_put_portal_name(number: u32, out: &mut [u8]) -> usize
     ensures length { result ≡ length (name portal_prefix number) }
@@ -53,8 +53,8 @@ pub extern "C" fn pgmsg_put_portal_name(number: u32, out: &mut [u8]) -> usize
     len - 1
 }
 
-/// How many bytes at the front of a text are UTF-8: its length where all of it is, else where the first
-/// character begins that isn't.
+/// How many bytes at the front of a text are UTF-8: the length of the text where all of it is, else the offset of the
+/// first character that isn't.
 #[unsafe(no_mangle)]
 pub extern "C" fn pgmsg_check_utf8(text: &[u8]) -> usize
     ensures { result ≡ utf8_valid_len text.now }

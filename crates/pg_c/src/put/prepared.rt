@@ -11,7 +11,7 @@ use pg_base::io::Oid;
 use pg_send::message::values::AsValue;
 use pg_send::message::{FunctionCall, RawBind, RawClose, RawDescribe, RawExecute, RawParse};
 
-/// The value of a parameter, or of a row. Where `is_null`, its bytes aren't looked at.
+/// The value of a parameter, or of a row. Where `is_null` is true, the bytes aren't looked at.
 #[repr(C)]
 #[derive(Clone, Copy)]
 pub struct PgmsgValue<'a> {
@@ -71,8 +71,8 @@ pub extern "C" fn pgmsg_put_bind(
     put(&bind, out)
 }
 
-/// A Describe of a prepared statement, where `kind` is `S`, or of a portal, where it is `P`; of others it
-/// is refused with PGMSG_UNKNOWN_TARGET. So is then a name that holds a NUL, as a text that holds one.
+/// A Describe of a prepared statement, where `kind` is `S`, or of a portal, where it is `P`. Another `kind` is refused
+/// with PGMSG_UNKNOWN_TARGET, and then a name that holds a NUL with PGMSG_TEXT_HOLDS_NUL.
 #[unsafe(no_mangle)]
 pub extern "C" fn pgmsg_put_describe(kind: u8, name: &[u8], out: &mut [u8]) -> isize
     ensures { PutsTargeted message.RawDescribe kind name.now out.old out.new result }

@@ -67,8 +67,8 @@ pub extern "C" fn pgmsg_put_password(password: &[u8], out: &mut [u8]) -> isize
     put(&password, out)
 }
 
-/// A PasswordMessage that answers a request for an MD5 digest: the digest of the salt after the digest,
-/// in hexadecimal, of the user's name after the password.
+/// A PasswordMessage that answers a request for an MD5 digest. First take the digest of the password with the user's
+/// name after it; `digest` is that of the hexadecimal digits of this one with the salt after them.
 #[unsafe(no_mangle)]
 pub extern "C" fn pgmsg_put_md5_password(digest: &[u8; 16], out: &mut [u8]) -> isize
     ensures { PutsMessage (message.Md5Password digest.now) out.old out.new result }
@@ -78,7 +78,7 @@ pub extern "C" fn pgmsg_put_md5_password(digest: &[u8; 16], out: &mut [u8]) -> i
 }
 
 /// A SASLInitialResponse: chooses a mechanism of SASL, such as `SCRAM-SHA-256`, and begins it with
-/// `response`. Where not `has_response`, the server begins. A mechanism that holds a NUL is refused.
+/// `response`. Without `has_response` the server begins. A mechanism that holds a NUL is refused.
 #[unsafe(no_mangle)]
 pub extern "C" fn pgmsg_put_sasl_initial(
     mechanism: &[u8],

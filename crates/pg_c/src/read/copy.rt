@@ -20,7 +20,7 @@ const FIRST_CODE: usize = 3;
 
 const CODE_LENGTH: usize = 2;
 
-/// How the data of a COPY is spelled: 0 for text, 1 for binary. `columns` may be below 0, which means
+/// The format of the data of a COPY, 0 for text and 1 for binary, and the number of columns, which may be below 0 for
 /// none.
 #[repr(C)]
 #[derive(Clone, Copy)]
@@ -29,7 +29,7 @@ pub struct PgmsgCopyResponse {
     pub columns: i16,
 }
 
-/// How the data of a COPY is spelled, by the body of a CopyInResponse, a CopyOutResponse or a
+/// The format of the data of a COPY, by the body of a CopyInResponse, a CopyOutResponse or a
 /// CopyBothResponse: how many columns have a code. As many codes as there is room for are written.
 #[unsafe(no_mangle)]
 pub extern "C" fn pgmsg_read_copy_response(

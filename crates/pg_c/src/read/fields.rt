@@ -48,9 +48,9 @@ pub extern "C" fn pgmsg_read_fields(body: &[u8], fields: &mut [PgmsgField]) -> u
     count
 }
 
-/// How grave an error or a notice is: 0 PANIC, 1 FATAL, 2 ERROR, 3 WARNING, 4 NOTICE, 5 DEBUG, 6 INFO,
-/// 7 LOG. Refused with PGMSG_NOTICE_NOT_UTF8 where its message or its code isn't UTF-8: a body that has its
-/// field `V` alone is read in any encoding.
+/// The severity of an error or a notice: 0 PANIC, 1 FATAL, 2 ERROR, 3 WARNING, 4 NOTICE, 5 DEBUG, 6 INFO, 7 LOG. Where
+/// the message or the code isn't UTF-8, the call refuses with PGMSG_NOTICE_NOT_UTF8; a body of the field `V` alone is
+/// read in any encoding.
 #[unsafe(no_mangle)]
 pub extern "C" fn pgmsg_read_severity(alloc: Global, body: &[u8], fault: &mut PgmsgFault) -> i32
     ensures severity { IfRead result (IsSeverityOf body.now) }

@@ -25,9 +25,8 @@ pub struct PgmsgFrame {
     pub length: usize,
 }
 
-/// The message at the front of a stream, of any tag: 1 where it is whole, 0 where more bytes are needed.
-/// Then `tag` is given as soon as there is a byte. Refused where its length is below 4: then, whatever
-/// comes next.
+/// The message at the front of a stream, of any tag: 1 where it is whole, 0 where more bytes are needed; then `tag` is
+/// given as soon as its byte is there. A length below 4 is refused, whatever bytes come after it.
 #[unsafe(no_mangle)]
 pub extern "C" fn pgmsg_next_frame(
     alloc: Global,
@@ -59,10 +58,10 @@ pub extern "C" fn pgmsg_next_frame(
     }
 }
 
-/// The messages at the front of a stream, of any tag, each as `pgmsg_next_frame` gives it, with places in
-/// the whole stream: how many are given. As many as are whole and there is room for are written; the first
-/// of the others begins where the lengths of these end. Refused where there is room for a message, and the
-/// length of the very first is below 4; such a length after others only ends them.
+/// The messages at the front of a stream, of any tag, each as `pgmsg_next_frame` gives it, with places in the whole
+/// stream. Returns how many were written: as many as are whole and have room in `frames`. The next message begins
+/// where the lengths of these end. Where there is room for a message and the length of the very first is below 4, the
+/// call refuses; such a length after other messages only ends them.
 #[unsafe(no_mangle)]
 pub extern "C" fn pgmsg_next_frames(
     alloc: Global,

@@ -48,8 +48,8 @@ pub struct PgmsgKeyData {
     pub secret_key: PgmsgSpan,
 }
 
-/// What a command has done: the text of its tag, such as `INSERT 0 1`, and how many rows it had to do
-/// with, which is the number after the last space, and 0 where there is none.
+/// What a command has done: the text of its tag, such as `INSERT 0 1`, and the number of rows, which is the number
+/// after the last space of the tag, or 0 where there is none.
 #[repr(C)]
 #[derive(Clone, Copy)]
 pub struct PgmsgCommand {

@@ -22,7 +22,7 @@ pub struct PgmsgRelay {
 }
 
 /// What is at the front of a stream. `length` bytes of it go out together; where more bytes are needed, it is how
-/// many at least. `tag` is 0 of a first message.
+/// many at least. `tag` is 0 for a first message.
 #[repr(C)]
 #[derive(Clone, Copy)]
 pub struct PgmsgPassage {
@@ -46,9 +46,9 @@ impl Wants for Wanted<'_> {
 
 /// What is at the front of a stream that is passed on: 1 for a whole message that is wanted whole, or a first one; 2
 /// for the next bytes of one that isn't; 0 where more bytes are needed. Messages with a tag are wanted whole where
-/// `wanted` has no 0 at the tag; a first message always is. Of a message that goes on in parts `tag` stays. Refused
-/// where the length of the next message is below 4, or below 8 of a first one, or where it is wanted whole and is
-/// longer than `limit`.
+/// `wanted` has no 0 at the tag; a first message always is. While a message goes on in parts, `tag` stays as it is. The
+/// call refuses a length below 4, or below 8 for a first message, and a message that is wanted whole and is longer than
+/// `limit`.
 #[unsafe(no_mangle)]
 pub extern "C" fn pgmsg_relay_next(
     alloc: Global,

@@ -13,8 +13,9 @@ use crate::relay::state::{expects_of, is_of_first};
 use pg_frames::relay::{RelayError, end_of_run};
 use std::alloc::Global;
 
-/// Whether bytes are whole messages one after the other, so that they may be added to a stream: 0, and `is_first`,
-/// which says whether a first message comes next, is what comes after them. Refused where they aren't.
+/// Whether bytes are whole messages one after the other, so that they may be added to a stream. `is_first` says whether
+/// the first of them is a first message. Where they are, the call returns 0 and sets `is_first` for what comes after
+/// them; else it refuses.
 #[unsafe(no_mangle)]
 pub extern "C" fn pgmsg_check_frames(
     alloc: Global,
