@@ -201,6 +201,7 @@ static void words_of_numbers(struct tally *tally)
         "first message is too long", "more items than can be counted", "not a run of whole messages",
         "message is longer than is taken whole", "unknown letter of a row or a value",
         "the login doesn't wait for this message", "the session is over", "the data of a COPY are due", "no COPY takes data",
+        "the data of this COPY can't be refused",
         "no request waits for an answer", "another request is being answered",
         "the message doesn't answer the request that waits", "requests were said behind a COPY that asks for data",
         "a Sync is due", "too many requests wait", "unknown error",
