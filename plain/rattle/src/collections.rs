@@ -36,7 +36,7 @@ impl<T> VecDeque<T> {
     /// Adds an item behind the others.
     #[inline]
     pub fn push_back(&mut self, item: T) -> Result<(), AllocFailed<T>> {
-        if self.0.len() == self.0.capacity() && self.0.try_reserve(1).is_err() {
+        if self.0.try_reserve(1).is_err() {
             return Err(AllocFailed { value: item });
         }
         self.0.push_back(item);
