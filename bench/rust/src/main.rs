@@ -95,10 +95,10 @@ fn followed(out: &mut Vec<u8>, index: &mut RowIndex) {
     let (mut buffer, mut others) = (Vec::new(), RowIndex::new());
     for cells in [1, 5, 50] {
         let (stream, mut connection) = (rows(200, cells), ours::in_rows());
-        let calls: [&mut dyn FnMut() -> usize; 2] = [
-            &mut || ours::read_of_request(&stream, &mut connection, out, index),
-            &mut || ours::read(&stream, &mut buffer, &mut others),
-        ];
+        let calls: [&mut dyn FnMut() -> usize; 2] =
+            [&mut || ours::read_of_request(&stream, &mut connection, out, index), &mut || {
+                ours::read(&stream, &mut buffer, &mut others)
+            }];
         compare(&format!("row of {cells} cells"), 200, calls);
     }
     let mut connection = pgmsg::Connection::ready();
