@@ -19,6 +19,7 @@ fn messages_are_appended_to_what_is_there() {
 #[test]
 fn a_buffer_of_the_crate_bytes() {
     use bytes::BytesMut;
+    use pgmsg::frontend::copy_head;
     let mut out = BytesMut::from(&b"before"[..]);
     let mut expected = out.to_vec();
     for length in (0..3000).step_by(13) {
