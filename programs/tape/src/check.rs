@@ -8,6 +8,7 @@ use crate::line::LineWriter;
 use crate::progress::Progress;
 use crate::recording_file::RecordingFile;
 use pgmsg::flow::{Fault, Flow, Heard, Mode};
+use pgmsg::frontend;
 use recording::Side;
 use std::collections::HashMap;
 use std::fmt;
@@ -95,6 +96,7 @@ struct Session {
     flow: Flow,
     trail: Trail,
     state: State,
+    is_replication: bool,
     /// Messages of its login are left out.
     is_left_out: bool,
     messages: u64,
@@ -169,6 +171,7 @@ impl Session {
             flow: Flow::client(),
             trail: Trail::default(),
             state: State::Followed,
+            is_replication: false,
             is_left_out: false,
             messages: 0,
         }
@@ -181,6 +184,7 @@ impl Session {
             Side::Client if self.state == State::Over => return Ok(()),
             Side::Client => {
                 self.flow.said(tag, body)?;
+                self.is_replication |= tag.is_none() && asks_for_replication(message);
             }
             Side::Server => {
                 if self.flow.heard(tag, body)? == Heard::End {
@@ -207,12 +211,24 @@ impl Session {
     }
 
     /// Whether a fault is none of the session, since the flow doesn't follow what it does: the end of a COPY's data before
-    /// the server asks for them. A login of which messages are left out may be any.
+    /// the server asks for them, and the rest of a transaction that a server of logical replication sends behind its
+    /// CopyDone. A login of which messages are left out may be any.
     fn is_beyond(&self, fault: Fault, side: Side, tag: Option<u8>) -> bool {
         let is_login = self.is_left_out && self.flow.mode() == Mode::Login;
         let ends_early =
             side == Side::Client && matches!(tag, Some(b'c' | b'f')) && fault == Fault::NotInCopy;
-        is_login || ends_early
+        let is_rest = self.is_replication && tag == Some(b'd') && fault == Fault::NotAnAnswer;
+        is_login || ends_early || is_rest
+    }
+}
+
+/// Whether a Startup asks for replication.
+fn asks_for_replication(message: &RawMessage<'_>) -> bool {
+    match frontend::Message::read_body(message.tag, message.body()) {
+        Ok(frontend::Message::Startup(startup)) => {
+            startup.settings.iter().any(|setting| setting.name == "replication")
+        }
+        _ => false,
     }
 }
 
@@ -288,8 +304,10 @@ mod tests {
 
     #[test]
     fn what_the_flow_does_not_follow_is_no_break() {
-        let (breaks, counts) = checked("_<RZ>PBEdcS<12GCZ");
-        assert_eq!((breaks.len(), counts.broken, counts.unfollowed), (0, 0, 1));
+        for text in ["_<RZ>PBEdcS<12GCZ", "r<RZ>Q<Wd>c<cd"] {
+            let (breaks, counts) = checked(text);
+            assert_eq!((breaks.len(), counts.broken, counts.unfollowed), (0, 0, 1), "{text}");
+        }
     }
 
     #[test]
