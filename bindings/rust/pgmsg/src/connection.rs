@@ -13,6 +13,12 @@ use core::marker::PhantomData;
 /// The tag of a DataRow.
 const DATA_ROW: Option<u8> = Some(b'D');
 
+/// The tag of a Terminate.
+const TERMINATE: Option<u8> = Some(b'X');
+
+/// The tag of an ErrorResponse.
+const ERROR: u8 = b'E';
+
 /// A connection as its client or its server holds it, without a socket: it says which message may be sent now, and which
 /// request a message answers that was received.
 ///
@@ -53,6 +59,8 @@ pub struct Connection<S> {
     decoder: Decoder,
     /// The request that the last message of the server answers, where that was a row: all rows of a run are of one.
     rows_of: Option<u64>,
+    /// Whether the byte is due that answers an SSLRequest or a GSSENCRequest. A message isn't taken for it.
+    is_byte_due: bool,
     side: PhantomData<S>,
 }
 
@@ -123,6 +131,10 @@ impl Connection<ClientSide> {
         message.write(out)?;
         let frame = Frame { tag: message.tag(), bytes: &out.bytes()[start..], offset: 0 };
         let said = self.flow.said(frame.tag, frame.body());
+        if frame.tag.is_none() && said.is_ok() {
+            self.is_byte_due =
+                matches!(message, frontend::Message::SslRequest | frontend::Message::GssEncRequest);
+        }
         said.map_err(|fault| {
             out.truncate(start);
             Error::of_order(fault, message.tag())
@@ -175,6 +187,8 @@ impl Connection<ClientSide> {
     /// Takes the byte that answers an SSLRequest or a GSSENCRequest, and tells whether the connection is encrypted from
     /// there on. An error in its place is a fault here too, since nobody has proved to be the server.
     ///
+    /// Close the connection where more bytes came with an `S` or a `G`: they aren't encrypted.
+    ///
     /// ```
     /// use pgmsg::connection::Connection;
     /// use pgmsg::frontend::Message;
@@ -185,10 +199,8 @@ impl Connection<ClientSide> {
     /// # Ok::<(), Box<dyn std::error::Error>>(())
     /// ```
     pub fn receive_encryption(&mut self, byte: u8) -> Result<bool, Error> {
-        match self.server_says(Some(byte), &[])? {
-            Heard::Login => Ok(byte != b'N'),
-            _ => Err(Error::of_order(flow::Fault::NotReady, Some(byte))),
-        }
+        self.byte_says(byte)?;
+        Ok(byte != b'N')
     }
 }
 
@@ -239,26 +251,29 @@ impl Connection<ServerSide> {
     /// Appends the byte that answers an SSLRequest or a GSSENCRequest: `S`, `G` or `N`.
     pub fn send_encryption<B: Buffer>(&mut self, byte: u8, out: &mut B) -> Result<(), Error> {
         out.try_reserve(1)?;
-        match self.server_says(Some(byte), &[])? {
-            Heard::Login => out.extend_from_slice(&[byte]),
-            _ => return Err(Error::of_order(flow::Fault::NotReady, Some(byte))),
-        }
+        self.byte_says(byte)?;
+        out.extend_from_slice(&[byte]);
         Ok(())
     }
 
     /// Takes the message at the front of the bytes that came, which go on behind it; `None` where it isn't whole, or where
-    /// the request before is to be answered first. A fault leaves the bytes where they are.
+    /// the request before is to be answered first, as before a Terminate too: after that nothing is sent. A fault leaves
+    /// the bytes where they are.
     #[inline]
     pub fn receive<'a>(&mut self, bytes: &mut &'a [u8]) -> Result<Option<Asked<'a>>, Error> {
         let mut decoder = self.decoder.clone();
         let Next::Frame(frame) = decoder.next(bytes)? else {
             return Ok(None);
         };
+        if frame.tag == TERMINATE && matches!(self.mode(), Mode::Busy | Mode::CopyOut) {
+            return Ok(None);
+        }
         let request = match self.flow.said(frame.tag, frame.body()) {
             Ok(request) => request,
             Err(flow::Fault::Busy) => return Ok(None),
             Err(fault) => return Err(Error::of_order(fault, frame.tag)),
         };
+        self.is_byte_due = frame.tag.is_none() && decoder.expects_first();
         (self.decoder, self.rows_of) = (decoder, None);
         *bytes = &bytes[frame.bytes.len()..];
         Ok(Some(Asked { frame, request }))
@@ -267,7 +282,7 @@ impl Connection<ServerSide> {
 
 impl<S> Connection<S> {
     fn of(flow: Flow, decoder: Decoder) -> Connection<S> {
-        Connection { flow, decoder, rows_of: None, side: PhantomData }
+        Connection { flow, decoder, rows_of: None, is_byte_due: false, side: PhantomData }
     }
 
     /// Refuses messages to be received of more than so many bytes, as [`Decoder::with_limit`] does.
@@ -305,9 +320,24 @@ impl<S> Connection<S> {
         }
     }
 
+    /// The byte that answers a request for encryption goes to its client.
+    fn byte_says(&mut self, byte: u8) -> Result<(), Error> {
+        let heard = match self.is_byte_due && byte != ERROR {
+            true => self.flow.heard(Some(byte), &[]),
+            false => Err(flow::Fault::NotReady),
+        };
+        heard.map_err(|fault| Error::of_order(fault, Some(byte)))?;
+        self.is_byte_due = false;
+        Ok(())
+    }
+
     #[inline(never)]
     fn step(&mut self, tag: Option<u8>, body: &[u8]) -> Result<Heard, flow::Fault> {
+        if self.is_byte_due && tag != Some(ERROR) {
+            return Err(flow::Fault::NotReady);
+        }
         let whose = self.flow.heard(tag, body)?;
+        self.is_byte_due = false;
         self.rows_of = match whose {
             Heard::Answer { request, .. } if tag == DATA_ROW => Some(request),
             _ => None,

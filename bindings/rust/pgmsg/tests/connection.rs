@@ -79,6 +79,7 @@ fn short(whose: Heard) -> String {
 }
 
 /// Both ends of a connection, and the bytes on their way from the client.
+#[derive(Debug)]
 struct Ends {
     client: Client,
     server: Server,
@@ -333,7 +334,7 @@ fn a_server_is_kept_from_answers_that_are_not_due() {
         (">_<RZ>Q<T", "Z", OrderFault::NotAnAnswer),
         (">_<RZ>P", "2", OrderFault::NotAnAnswer),
         (">_<RZ>S", "C", OrderFault::NotAnAnswer),
-        (">_<RZ>Q<TD>X", "D", OrderFault::AfterEnd),
+        (">_<RZ>X", "E", OrderFault::AfterEnd),
         (">_", "Z", OrderFault::NotReady),
         ("", "R", OrderFault::NotReady),
     ];
@@ -363,6 +364,65 @@ fn a_server_takes_a_request_once_the_one_before_is_answered() {
     assert_eq!(ends.server.receive(&mut &ends.way[..]), Ok(None));
     ends.say("<CZ");
     assert_eq!((ends.server.first(), ends.server.waits()), (1, 1));
+}
+
+#[test]
+fn a_request_before_a_terminate_is_answered() {
+    // A COPY whose data the client gives is left in its midst.
+    let table = [
+        (">QX<TDCZ", "0 0 0 0!", Mode::Ended),
+        (">QX<TDC", "0 0 0", Mode::Busy),
+        (">QX<Hd", "0 0", Mode::CopyOut),
+        (">PSX<1Z", "0! 1!", Mode::Ended),
+        (">PSX<E", "0!", Mode::Busy),
+        (">Q<G>dX", "0", Mode::Ended),
+    ];
+    for (said, wanted, mode) in table {
+        let mut ends = Ends::ready();
+        assert_eq!((ends.say(said), ends.server.mode()), (wanted.to_owned(), mode), "{said}");
+        assert_eq!(ends.way.is_empty(), mode == Mode::Ended, "{said}");
+    }
+}
+
+#[test]
+fn a_message_is_not_taken_for_the_byte_that_answers_a_request_for_encryption() {
+    for asked in [frontend::Message::SslRequest, frontend::Message::GssEncRequest] {
+        let (mut ends, mut out) = (Ends::new(), Vec::new());
+        ends.client.send(&asked, &mut ends.way).expect("it comes first");
+        ends.take();
+        for letter in ['S', 'N', 'R'] {
+            let message = answers(letter);
+            assert_eq!(fault_of(hears(&mut ends.client, &message)), OrderFault::NotReady);
+            let sent = ends.server.send(&message, &mut out);
+            assert_eq!((fault_of(sent), out.len()), (OrderFault::NotReady, 0));
+        }
+        assert!(ends.server.send_encryption(b'E', &mut out).is_err());
+        ends.server.send_encryption(b'N', &mut out).expect("it is asked for");
+        assert_eq!((ends.client.receive_encryption(b'N'), &out[..]), (Ok(false), &b"N"[..]));
+        assert_eq!(ends.say(">_<RSZ"), "login login login");
+    }
+    let mut ends = Ends::new();
+    ends.client.send(&frontend::Message::SslRequest, &mut ends.way).expect("it comes first");
+    assert_eq!(ends.say("<E"), "end");
+}
+
+#[test]
+fn a_byte_is_not_taken_for_a_message() {
+    let mut ends = Ends::new();
+    ends.say(">_<R");
+    for byte in *b"SNK" {
+        assert_eq!(fault_of(ends.client.receive_encryption(byte)), OrderFault::NotReady);
+        assert_eq!(
+            fault_of(ends.server.send_encryption(byte, &mut Vec::new())),
+            OrderFault::NotReady
+        );
+    }
+    ends.say("<KSZ>P");
+    let (mut out, before) = (Vec::new(), format!("{ends:?}"));
+    assert!(ends.server.send_encryption(b'1', &mut out).is_err());
+    assert!(ends.client.receive_encryption(b'1').is_err());
+    assert_eq!((out.len(), format!("{ends:?}")), (0, before));
+    assert_eq!(ends.say("<1"), "0!");
 }
 
 #[test]
