@@ -6,6 +6,7 @@ use postgres_protocol_pgmsg::message::backend::Message;
 use postgres_protocol_pgmsg::message::frontend::*;
 use postgres_protocol_pgmsg::IsNull;
 use std::error::Error;
+use std::panic::{catch_unwind, AssertUnwindSafe};
 
 #[test]
 fn streams_that_only_one_refuses() {
@@ -49,6 +50,16 @@ fn refusals_leave_the_buffer() {
         let refused = bind("", "", [], [()], takes_away, [], out);
         *out = kept;
         matches!(refused, Err(BindError::Serialization(_)))
+    });
+    refuses(|out| {
+        let panics = |value: &[u8], to: &mut BytesMut| {
+            to.extend_from_slice(value);
+            assert!(!value.is_empty(), "no value");
+            Ok(IsNull::No)
+        };
+        let values = [&b"a value"[..], b""];
+        let call = AssertUnwindSafe(|| bind("", "", [], values, panics, [], out));
+        catch_unwind(call).is_err()
     });
     refuses(|out| {
         let refused = bind("\0", "", [], [(); 0], fails, [], out);

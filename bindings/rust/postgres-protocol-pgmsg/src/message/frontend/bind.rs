@@ -7,6 +7,7 @@ use original::message::frontend::BindError;
 use pgmsg::{frontend, Format, Refusal};
 use std::error::Error;
 use std::io;
+use std::mem;
 
 /// The bytes of the two counts that end a Bind without values and result formats.
 const COUNTS: usize = 4;
@@ -30,20 +31,33 @@ where
     K: IntoIterator<Item = i16>,
 {
     let start = buf.len();
+    let message = Unfinished { buf, start };
+    let buf = &mut *message.buf;
     let formats = formats.into_iter().map(Format);
     let put_value = |value, buf: &mut BytesMut| put_value(|buf| serializer(value, buf), buf);
     let put_format = |format, buf: &mut BytesMut| {
         buf.put_i16(format);
         Ok(())
     };
-    let written = with_list(formats, |formats| put_names(portal, statement, formats, buf))
-        .and_then(|()| put_counted(values, put_value, Refusal::BadParams, buf))
-        .and_then(|()| put_counted(result_formats, put_format, Refusal::TooManyResultFormats, buf))
-        .and_then(|()| put_length(start, buf));
-    if written.is_err() {
-        buf.truncate(start);
+    with_list(formats, |formats| put_names(portal, statement, formats, buf))?;
+    put_counted(values, put_value, Refusal::BadParams, buf)?;
+    put_counted(result_formats, put_format, Refusal::TooManyResultFormats, buf)?;
+    put_length(start, buf)?;
+    mem::forget(message);
+    Ok(())
+}
+
+/// A message that is being appended, of which nothing stays where it is refused, or where the caller's function panics:
+/// what stood there of it would be sent before the next message.
+struct Unfinished<'b> {
+    buf: &'b mut BytesMut,
+    start: usize,
+}
+
+impl Drop for Unfinished<'_> {
+    fn drop(&mut self) {
+        self.buf.truncate(self.start);
     }
-    written
 }
 
 /// Appends a Bind up to its values.
