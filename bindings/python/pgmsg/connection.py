@@ -8,10 +8,14 @@ from typing import Any, NamedTuple
 from .fault import Code, Fault
 from .flow import HEADER, Flow, Kind, Mode, Whose, parts
 from .message import BackendMessage, Buffer, FrontendMessage
+from .opening import GSSENCRequest, SSLRequest
 from .session import TransactionStatus
 from .stream import FIRST_OF_CLIENT, KINDS, MAX_LENGTH, ClientStream, ServerStream
 
-ROW, TERMINATE = ord("D"), ord("X")
+ROW, TERMINATE, ERROR = ord("D"), ord("X"), ord("E")
+
+# What a byte answers, and no message.
+ENCRYPTIONS = (SSLRequest, GSSENCRequest)
 
 
 class Event(NamedTuple):
@@ -42,6 +46,18 @@ class Followed:
     """What both sides share."""
 
     _flow: Flow
+    _is_byte_due = False
+
+    def _heard(self, tag: int, body: bytes) -> Whose:
+        if self._is_byte_due and tag != ERROR:
+            raise Fault(Code.NOT_READY, "a byte answers a request for encryption, and no message")
+        return self._flow.heard(tag, body)
+
+    def _heard_byte(self, byte: bytes) -> None:
+        if not self._is_byte_due or byte == b"E":
+            raise Fault(Code.NOT_READY, "no byte is due that says whether the connection is encrypted")
+        self._flow.heard(ord(byte), b"")
+        self._is_byte_due = False
 
     @property
     def mode(self) -> Mode:
@@ -91,6 +107,9 @@ class Connection(Followed, ClientStream):
         except BaseException:
             self._flow.state = state
             raise
+        # Nothing is said behind a request for encryption.
+        if messages:
+            self._is_byte_due = isinstance(messages[-1], ENCRYPTIONS)
         return b"".join(out)
 
     def receive(self, data: Buffer, kind: type[str] | type[bytes] | type[memoryview] = str) -> Iterator[Event]:
@@ -105,10 +124,9 @@ class Connection(Followed, ClientStream):
 
     def receive_encryption(self, byte: bytes) -> bool:
         """Takes the byte that answers an SSLRequest or a GSSENCRequest: whether the connection is encrypted from there on. An
-        error in its place is refused, since nobody has proved to be the server."""
-        if byte == b"E":
-            raise Fault(Code.NOT_READY, "the server refuses to say whether it encrypts")
-        self._alone(self._flow.heard, ord(byte), b"")
+        error in its place is refused, since nobody has proved to be the server. Close the connection where more bytes came with
+        an `S` or a `G`: they aren't encrypted."""
+        self._alone(self._heard_byte, byte)
         return byte != b"N"
 
     def _rows(self, kind: int) -> list[tuple[Any, ...]]:
@@ -118,7 +136,7 @@ class Connection(Followed, ClientStream):
         return rows
 
     def _read(self, tag: int, body: bytes) -> BackendMessage:
-        self._whose = self._flow.heard(tag, body)
+        self._whose = self._heard(tag, body)
         return super()._read(tag, body)
 
 
@@ -142,7 +160,7 @@ class ServerConnection(Followed, ServerStream):
         state, out = self._flow.state, [message.write() for message in messages]
         try:
             for message, data in zip(messages, out):
-                self._flow.heard(message.TAG, data[HEADER:])
+                self._heard(message.TAG, data[HEADER:])
         except BaseException:
             self._flow.state = state
             raise
@@ -150,7 +168,7 @@ class ServerConnection(Followed, ServerStream):
 
     def send_encryption(self, byte: bytes) -> bytes:
         """The byte that answers an SSLRequest or a GSSENCRequest: `S`, `G` or `N`."""
-        self._alone(self._flow.heard, ord(byte), b"")
+        self._alone(self._heard_byte, byte)
         return byte
 
     def receive(self, data: Buffer = b"") -> Iterator[Request]:
@@ -169,7 +187,9 @@ class ServerConnection(Followed, ServerStream):
         return None if message is None else Request(message, self._number)
 
     def _read(self, tag: int, body: bytes) -> FrontendMessage:
-        if tag == TERMINATE and self.waits:
+        if tag == TERMINATE and self.mode in (Mode.BUSY, Mode.COPY_OUT):
             raise Fault(Code.BUSY, "the request before the end of the session isn't answered")
         self._number = self._flow.said(None if self._side == FIRST_OF_CLIENT else tag, body)
-        return super()._read(tag, body)
+        message = super()._read(tag, body)
+        self._is_byte_due = isinstance(message, ENCRYPTIONS)
+        return message

@@ -147,6 +147,22 @@ class TestClient(Case):
         connection.send(CancelRequest(1, b"abcd"))
         self.assertEqual(connection.mode, Mode.ENDED)
 
+    def test_a_message_in_the_place_of_encryption(self):
+        for asked in (SSLRequest(), GSSENCRequest()):
+            for message in (NoticeResponse({"M": "a"}), ParameterStatus("a", "b")):
+                connection = Connection()
+                self.refused(Code.NOT_READY, connection.send, asked, STARTUP)
+                connection.send(asked)
+                self.refused(Code.NOT_READY, connection.receive, message.write())
+            connection = Connection()
+            connection.send(asked)
+            self.hears(connection, (ErrorResponse({"M": "a"}), END))
+        connection = Connection()
+        connection.send(STARTUP)
+        self.hears(connection, (AuthenticationOk(), LOGIN))
+        for byte in (b"S", b"N"):
+            self.refused(Code.NOT_READY, connection.receive_encryption, byte)
+
     def test_many_requests(self):
         connection = client(*[Sync()] * 1025)
         self.refused(Code.FLOW_FULL, connection.send, Sync())
@@ -224,6 +240,25 @@ class TestServer(Case):
         connection.send(ReadyForQuery())
         self.assertEqual([*connection.receive()], [Request(Terminate(), None)])
         self.refused(Code.AFTER_END, connection.send, ErrorResponse({"M": "a"}))
+
+    def test_the_end_in_a_copy(self):
+        for answer in (CopyInResponse(), CopyBothResponse()):
+            connection = server()
+            self.assertEqual([*connection.receive(write(Query("COPY"), Terminate()))], [Request(Query("COPY"), 0)])
+            self.assertEqual([*connection.receive()], [])
+            connection.send(answer)
+            self.assertEqual([*connection.receive()], [Request(Terminate(), None)])
+
+    def test_a_message_in_the_place_of_encryption(self):
+        connection = ServerConnection()
+        self.refused(Code.NOT_READY, connection.send_encryption, b"N")
+        self.assertEqual([*connection.receive(SSLRequest().write())], [Request(SSLRequest(), None)])
+        self.refused(Code.NOT_READY, connection.send, NoticeResponse({"M": "a"}))
+        self.refused(Code.NOT_READY, connection.send_encryption, b"E")
+        self.assertEqual(connection.send_encryption(b"N"), b"N")
+        self.assertEqual([*connection.receive(STARTUP.write())], [Request(STARTUP, None)])
+        connection.send(AuthenticationOk())
+        self.refused(Code.NOT_READY, connection.send_encryption, b"N")
 
     def test_a_login(self):
         connection = ServerConnection()
