@@ -39,7 +39,7 @@ in_unpacked() {
 
 # Runs commands of README.md where some words say, by a function in a folder, to the first that fails. What each wrote is in
 # $written.
-follow() {
+follow_readme() {
     local command begun
     for command in "${@:4}"; do
         begun=$SECONDS
@@ -57,10 +57,10 @@ use_in_debian() {
     # Links to what was fetched here already, where they can be made.
     cp -l /var/cache/apt/archives/*.deb "$work/building/var/cache/apt/archives" 2> /dev/null
     git clone --quiet . "$work/building/root/tarnwhisk"
-    follow 'a new Debian 12' in_debian "$work/building" '! command -v rt' "${building[@]}"
+    follow_readme 'a new Debian 12' in_debian "$work/building" '! command -v rt' "${building[@]}"
     [ "$status" = 0 ] || return
     cp -r "$work/building/root/tarnwhisk/packages" "$work/hello.c" "$1/root/tarnwhisk"
-    follow 'another new Debian 12' in_debian "$1" "${using[@]}"
+    follow_readme 'another new Debian 12' in_debian "$1" "${using[@]}"
     try in_debian "$1" "dpkg-query -W -f '\${Description}' libpgmsg0 libpgmsg-dev pg-record python3-pgmsg"
     same 'package: each that has code for messages says that it is a plain build' \
         "$(grep -c 'plain build' <<< "$output") $(grep -c 'proved build' <<< "$output")" '4 0'
@@ -81,7 +81,7 @@ use_unpacked() {
     done
     cp "$work/hello.c" "$1"
     find_builder
-    follow 'unpacked' in_unpacked "$1" "${using[@]:1}"
+    follow_readme 'unpacked' in_unpacked "$1" "${using[@]:1}"
 }
 
 # The user of the image serves a recording that its owner alone can read, as pg_record makes it. Root is that owner with
