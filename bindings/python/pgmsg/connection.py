@@ -113,9 +113,14 @@ class Connection(Followed, ClientStream):
         return b"".join(out)
 
     def receive(self, data: Buffer, kind: type[str] | type[bytes] | type[memoryview] = str) -> Iterator[Event]:
-        """What came with these bytes. Rows that come one after the other are a list, as `ClientStream.rows` gives them."""
+        """What came with these bytes, which are taken at once: what isn't iterated over comes with the next ones. Rows that
+        come one after the other are a list, as `ClientStream.rows` gives them."""
+        number = KINDS[kind]
         self.feed(data)
-        while (event := self._alone(self._event, KINDS[kind])) is not None:
+        return self._events(number)
+
+    def _events(self, kind: int) -> Iterator[Event]:
+        while (event := self._alone(self._event, kind)) is not None:
             yield event
 
     def _event(self, kind: int) -> Event | None:
@@ -129,11 +134,9 @@ class Connection(Followed, ClientStream):
         self._alone(self._heard_byte, byte)
         return byte != b"N"
 
-    def _rows(self, kind: int) -> list[tuple[Any, ...]]:
+    def _take_rows(self) -> None:
         # Rows that come one after the other answer one request.
-        if rows := super()._rows(kind):
-            self._whose = self._flow.heard(ROW, b"")
-        return rows
+        self._whose = self._flow.heard(ROW, b"")
 
     def _read(self, tag: int, body: bytes) -> BackendMessage:
         self._whose = self._heard(tag, body)
@@ -172,8 +175,11 @@ class ServerConnection(Followed, ServerStream):
         return byte
 
     def receive(self, data: Buffer = b"") -> Iterator[Request]:
-        """What came with these bytes and before."""
+        """What came with these bytes, which are taken at once, and before."""
         self.feed(data)
+        return self._requests()
+
+    def _requests(self) -> Iterator[Request]:
         while (request := self._alone(self._request)) is not None:
             yield request
 

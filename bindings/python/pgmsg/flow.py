@@ -97,6 +97,8 @@ class Flow:
 
     @state.setter
     def state(self, state: bytes) -> None:
+        if len(state) != ffi.sizeof(self._flow[0]):
+            raise ValueError("the state of no flow")
         ffi.memmove(self._flow, state, len(state))
 
     @property

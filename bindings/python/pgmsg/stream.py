@@ -130,11 +130,16 @@ class ClientStream(Stream[BackendMessage]):
         if needed and self._pieces:
             self._join()
             rows, at, needed = _fast.rows(self._data, self._at, kind, self._limit + 1)
+        if rows:
+            self._take_rows()
         self._at = at
         # A row that is too long is refused by the next call, after those before it.
         if needed <= self._limit + 1 or not rows:
             self._wait(needed)
         return rows
+
+    def _take_rows(self) -> None:
+        """Refuses rows that may not come now."""
 
     @overload
     def runs(self) -> Iterator[BackendMessage | list[tuple[str | None, ...]]]: ...

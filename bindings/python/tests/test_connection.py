@@ -73,6 +73,27 @@ class TestClient(Case):
         connection = client(Execute())
         self.assertEqual([*connection.receive(write(DataRow(["1", None])), bytes)], [Event([(b"1", None)], ANSWER(0))])
 
+    def test_what_is_not_iterated_over_comes_later(self):
+        connection = client(Query("a"))
+        events = connection.receive(CommandComplete("A").write())
+        connection.receive(ReadyForQuery().write())
+        with self.assertRaises(KeyError):
+            connection.receive(ReadyForQuery().write(), int)
+        self.assertEqual(next(events), Event(CommandComplete("A"), ANSWER(0)))
+        self.assertEqual([*events], [Event(ReadyForQuery(), ANSWER(0, True))])
+
+    def test_rows_that_may_not_come_stay_refused(self):
+        connection = client(Query("a"))
+        self.refused(Code.NOT_AN_ANSWER, connection.receive, write(DataRow(["1"]), CommandComplete("A")))
+        self.refused(Code.NOT_AN_ANSWER, connection.receive, b"")
+        self.refused(Code.NOT_AN_ANSWER, connection.rows)
+
+    def test_states(self):
+        flow = Flow()
+        for state in (b"", flow.state[1:], flow.state + b"a"):
+            with self.assertRaises(ValueError):
+                flow.state = state
+
     def test_early_syncs(self):
         connection = client(Execute(), Sync())
         self.hears(connection, (CopyInResponse(), ANSWER(0)))
@@ -276,6 +297,11 @@ class TestServer(Case):
         self.refused(Code.NOT_READY, ServerConnection().receive, CancelRequest(1, b"abcd").write() + STARTUP.write())
         connection = server()
         self.refused(Code.UNKNOWN_MESSAGE_TYPE, connection.receive, b"p\0\0\0\5\0")
+
+    def test_what_is_not_iterated_over_comes_later(self):
+        connection = server()
+        connection.receive(Flush().write())
+        self.assertEqual([*connection.receive(Sync().write())], [Request(Flush(), None), Request(Sync(), 0)])
 
     def test_both_sides(self):
         ours, theirs = client(), server()
