@@ -24,7 +24,7 @@ login, connection = Login(user, os.environ.get("PGPASSWORD", "")), Connection()
 to_ask = [Query(f"TABLE {table}"), Terminate()]
 with connect(host, port) as server:
     server.sendall(connection.send(StartupMessage({"user": user, "database": database, "client_encoding": "UTF8"})))
-    while data := server.recv(1 << 16):
+    while to_ask and (data := server.recv(1 << 16)):
         for message, _ in connection.receive(data):
             if answer := login.answer(message):
                 server.sendall(connection.send(answer))

@@ -27,6 +27,8 @@ class Reader(asyncio.Protocol):
                     self.rows += message
                 case ReadyForQuery():
                     self.transport.write(self.connection.send(self.to_send.pop(0)))
+                    if not self.to_send:
+                        return self.transport.close()
                 case ErrorResponse():
                     self.error = RuntimeError(message)
                     return self.transport.close()
