@@ -3,6 +3,7 @@
 //! The recording is read more than once: what is masked in one place is masked wherever it stands. A value keeps its length
 //! and its type, and a password neither.
 
+mod followed_session;
 mod known_secrets;
 mod lexer;
 mod literal;
@@ -186,6 +187,10 @@ impl Redactor {
         let mut ranges = MaskedRanges::new(&message.bytes, &mut self.known);
         let session = self.sessions.of(connection);
         let (tag, body) = (message.tag, message.body());
+        match side {
+            Side::Client => session.said(tag, body),
+            Side::Server => session.heard(tag, body),
+        }
         let is_read = match side {
             Side::Client => match pgmsg::frontend::Message::read_body(tag, body) {
                 Ok(read) => {

@@ -159,6 +159,37 @@ fn a_portal_stays_where_the_server_refuses_another_of_its_name() {
     test("portal", RULES, &said.concat(), TapeStatus::Ok);
 }
 
+/// The server answers the Sync before the data of a COPY too, where the COPY fails before it takes them.
+#[test]
+fn a_statement_stays_where_another_is_refused_behind_a_copy_that_fails() {
+    let begun = [
+        ready(),
+        parse("s", "SELECT a FROM t WHERE phone = $1"),
+        parse("c", "COPY t FROM STDIN"),
+        bind("", "c", "a"),
+        execute(""),
+        sync(),
+        PARSED,
+        PARSED,
+        BOUND,
+        S(backend::Message::CopyInResponse(CopyResponse { format: 0, columns: [].into() })),
+        C(frontend::Message::CopyDone),
+        sync(),
+    ];
+    let (failed, refused) = ([error(), ready()], [parse("s", "SELECT $1"), sync()]);
+    let used =
+        [error(), ready(), bind("", "s", "secret-phone"), execute(""), sync(), BOUND, complete()];
+    for said in [
+        [&begun[..], &failed, &refused, &used],
+        [&begun[..], &failed, &refused, &[&[ready()][..], &used].concat()],
+        [&begun[..], &failed, &[&[ready()][..], &refused].concat(), &used],
+    ] {
+        let tape = recording(&said.concat(), 1 << 20);
+        let (status, lines) = redacted("copy", RULES, &tape);
+        assert_eq!((status, lines.contains("secret-")), (TapeStatus::Ok, false), "{lines}");
+    }
+}
+
 #[test]
 fn what_cannot_be_told_has_a_status() {
     let never_described = [

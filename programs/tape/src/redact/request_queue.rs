@@ -118,6 +118,14 @@ impl RequestQueue {
         self.drop_ends();
     }
 
+    /// The server is ready after one of the Syncs of a COPY that failed, of which it may answer fewer: nothing else is over.
+    pub fn ready_of_group(&mut self) {
+        (self.is_copying, self.is_skipping) = (false, false);
+        if matches!(self.front(), Some(PendingRequest::Sync)) {
+            self.pop();
+        }
+    }
+
     /// Drops ends of data that no COPY has taken, which a server passes over.
     fn drop_ends(&mut self) {
         while matches!(self.front(), Some(PendingRequest::DataEnd)) {

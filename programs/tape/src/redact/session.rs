@@ -1,5 +1,6 @@
 //! Which columns a row has, and which statement a Bind is of: sessions are followed so far.
 
+use super::followed_session::FollowedSession;
 use super::masked_names::MaskedNames;
 use super::request_queue::{PendingRequest, RequestQueue};
 use pgmsg::backend::{self, Column};
@@ -59,6 +60,9 @@ pub struct SessionState {
     refused: HashMap<Vec<u8>, PreparedStatement>,
     portals: HashMap<Vec<u8>, Portal>,
     pending: RequestQueue,
+    followed: FollowedSession,
+    /// The server's message is a ReadyForQuery for one of the Syncs of a COPY that failed.
+    is_of_group: bool,
     /// How many Parses and Binds the client has sent.
     made: u32,
     /// The columns of the rows of a Query.
@@ -105,6 +109,16 @@ impl SessionState {
             }
             _ => self.columns.clone(),
         }
+    }
+
+    /// Takes the bytes of what a client says.
+    pub fn said(&mut self, tag: Option<u8>, body: &[u8]) {
+        self.followed.said(tag, body);
+    }
+
+    /// Takes the bytes of what a server answers.
+    pub fn heard(&mut self, tag: Option<u8>, body: &[u8]) {
+        self.is_of_group = self.followed.heard(tag, body);
     }
 
     /// Notes what a client says.
@@ -167,6 +181,7 @@ impl SessionState {
             ) => self.pending.pop(),
             (M::CopyInResponse(_) | M::CopyBothResponse(_), _) => self.pending.begin_copy(),
             (M::ErrorResponse(_), _) => self.pending.fail(),
+            (M::ReadyForQuery(_), _) if self.is_of_group => self.pending.ready_of_group(),
             (M::ReadyForQuery(_), _) => self.pending.ready(),
             _ => {}
         }
