@@ -147,13 +147,15 @@ mod tests {
 
     #[test]
     fn what_is_said_and_what_is_answered_have_one_number() {
-        let table: [(&str, &[u32]); 6] = [
+        let table: [(&str, &[u32]); 8] = [
             ("_<R>p<RSKZ", &[0, 0, 0, 0, 0, 0, 0]),
             ("_<Z>Q<TDCZ>Q<CZ>X", &[0, 0, 1, 1, 1, 1, 1, 2, 2, 2, 3]),
             ("_<Z>PBDESBES<12TDCZ2CZ", &[0, 0, 1, 1, 1, 1, 1, 2, 2, 2, 1, 1, 1, 1, 1, 1, 2, 2, 2]),
             ("_<Z>Q<G>ddc<CZ>Q", &[0, 0, 1, 1, 1, 1, 1, 1, 1, 2]),
             ("_<Z>PBES<12G>ddcS<CZ>Q", &[0, 0, 1, 1, 1, 1, 1, 1, 1, 1, 1, 1, 1, 1, 1, 2]),
             ("_<Z>F<VZ>Q", &[0, 0, 1, 1, 1, 2]),
+            ("_<Z>PBESPBES<1EZ12CZ", &[0, 0, 1, 1, 1, 1, 2, 2, 2, 2, 1, 1, 1, 2, 2, 2, 2]),
+            ("_<Z>PB<1E>ESQ<ZCZ", &[0, 0, 1, 1, 1, 1, 1, 1, 2, 1, 2, 2]),
         ];
         for (text, wanted) in table {
             assert_eq!(said(text), wanted, "{text}");
