@@ -27,11 +27,10 @@ class Reader(asyncio.Protocol):
                     self.rows += message
                 case ReadyForQuery():
                     self.transport.write(self.connection.send(self.to_send.pop(0)))
-                    if not self.to_send:
-                        return self.transport.close()
                 case ErrorResponse():
                     self.error = RuntimeError(message)
-                    return self.transport.close()
+            if not self.to_send or isinstance(message, ErrorResponse):
+                return self.transport.close()
 
     def connection_lost(self, error):
         if error or self.to_send:
@@ -40,8 +39,8 @@ class Reader(asyncio.Protocol):
 
 
 async def main(host, port, user, database, table):
-    connect = asyncio.get_running_loop().create_connection
-    _, reader = await connect(lambda: Reader(user, database, f"TABLE {table}"), host, port)
+    reader = Reader(user, database, f"TABLE {table}")
+    await asyncio.get_running_loop().create_connection(lambda: reader, host, port)
     sys.stdout.writelines(f"{row}\n" for row in await reader.result)
 
 
