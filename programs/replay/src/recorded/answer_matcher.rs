@@ -109,7 +109,8 @@ pub struct AnswerMatcher {
 /// A session after its login, which says how many ReadyForQuery may answer the Syncs of a COPY that fails.
 #[derive(Debug, Default)]
 struct FollowedSession {
-    /// Nothing before the login is over, and where the session breaks the order, or is one of replication.
+    /// Nothing before the login is over, and once the session breaks the order, or ends a COPY's data before the server asks
+    /// for them. What was recorded is served whatever it is: the answers are matched by their kinds alone then.
     flow: Option<Flow>,
     is_open: bool,
     /// The client's messages that are requests, from the number of the first on.
