@@ -14,7 +14,10 @@ are those of RFC 5802 for the password `known to both`:
     ready       is ready for a query
     rows        answers a query by a row of the text `forged`, and is ready
     follows     answers START_REPLICATION by a table and an Insert of the text `forged` in a transaction
+    early       the same without saying that data go both ways
     latin       the same of a text that isn't UTF-8
+    done        ends its data
+    over        ends START_REPLICATION, and is ready
     orders      answers a query by a row of texts that a terminal obeys, `byte` by such a byte that isn't UTF-8, and `error` by
                 an error of all of these
     long        begins a message of two gigabytes
@@ -56,7 +59,11 @@ def changes(text):
     contents = [
         b"B" + bytes(8 + 8 + 4), b"R\0\0\0\1public\0t\0d\0\1\0name\0\0\0\0\x19\xff\xff\xff\xff",
         b"I\0\0\0\1N\0\1t" + int4(len(text)) + text, b"C\0" + bytes(8) + (77).to_bytes(8, "big") + bytes(8)]
-    return message("W", b"\0", 0) + b"".join(message("d", b"w" + bytes(24) + it) for it in contents)
+    return b"".join(message("d", b"w" + bytes(24) + it) for it in contents)
+
+
+# Data go both ways: a CopyBothResponse.
+BOTH = message("W", b"\0", 0)
 
 
 def challenge(first, iterations):
@@ -80,8 +87,11 @@ SAID = {
     "ok": message("R", int4(0)),
     "ready": message("Z", b"I"),
     "rows": answer(b"forged"),
-    "follows": changes(b"forged"),
-    "latin": changes(b"gr\xfcn"),
+    "follows": BOTH + changes(b"forged"),
+    "early": changes(b"forged"),
+    "latin": BOTH + changes(b"gr\xfcn"),
+    "done": message("c"),
+    "over": message("C", "COPY 0") + message("C", "START_REPLICATION") + message("Z", b"I"),
     "orders": answer(*ORDERS),
     "byte": answer(BYTE),
     "error": message("E", "SERROR", "C42P01", b"M" + b"|".join([BYTE, *ORDERS]) + b"\0", b"\0"),

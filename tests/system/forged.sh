@@ -104,13 +104,21 @@ confirms=640000002672????????????????000000000000004d
 
 test_forged_changes() {
     local words within=()
-    for words in 'ready follows' 'follows' 'offer ready follows' 'offer ok ready follows' 'offer challenge ready follows'; do
+    for words in 'ready follows' 'follows' 'notice ok ready follows' 'offer ready follows' 'offer ok ready follows' \
+        'offer challenge ready follows'; do
         test_forged_login "$1" "$words" 'START_REPLICATION|known to both'
+    done
+    # A server that is logged in to says its changes, or is ready, out of turn.
+    for words in 'ok ready early' 'ok ready ready follows' 'ok ready done follows'; do
+        test_forged_login "$1" "$words" 'known to both'
     done
     against_words "$1" 'version ok notice ready follows'
     expect "the server stops, $1" 1 'the server closed the connection'
     same "the server stops, $1: changes" "$(grep -o forged "$work/changes") $(grep -c commit "$work/changes")" 'forged 1'
     [[ $(heard) == *$confirms* ]] || bad "the server stops, $1: no position is confirmed" "$(heard)"
+    against_words "$1" 'ok ready follows done over'
+    expect "the server ends its changes, $1" 1 'the server has ended the changes'
+    [[ $(heard) == *6300000004 ]] || bad "the server ends its changes, $1: the client doesn't end its data" "$(heard)"
     against_words "$1" 'ok ready latin'
     same "a text that isn't UTF-8, $1" "$status $(grep -c commit "$work/changes")" '1 0'
     [[ $(heard) != *$confirms* ]] || bad "a text that isn't UTF-8, $1: it is confirmed" "$(heard)"

@@ -12,7 +12,7 @@ import os
 import socket
 import sys
 
-from pgmsg import ClientStream, CopyData, ErrorResponse, Login, Query, ReadyForQuery, StartupMessage
+from pgmsg import Connection, CopyData, CopyDone, ErrorResponse, Kind, Login, Query, ReadyForQuery, StartupMessage
 from pgmsg.logical import Commit, Delete, Insert, Key, LogicalStream, Relation, Text, Truncate, Update, Whole
 from pgmsg.replication import PrimaryKeepalive, StandbyStatusUpdate, XLogData, read
 
@@ -85,24 +85,28 @@ class Follower:
 
 
 host, port, user, database, slot, publication, path = sys.argv[1:]
-login, stream = Login(user, os.environ.get("PGPASSWORD", "")), ClientStream()
+login, connection = Login(user, os.environ.get("PGPASSWORD", "")), Connection()
 settings = {"user": user, "database": database, "replication": "database", "client_encoding": "UTF8"}
-with socket.create_connection((host, int(port))) as connection, open(path, "a+b") as file:
+with socket.create_connection((host, int(port))) as server, open(path, "a+b") as file:
     file.seek(0)
     follower = Follower(file)
     start = f"{follower.flushed >> 32:X}/{follower.flushed & 0xFFFFFFFF:X}"
     options = f"proto_version '1', publication_names '{publication}'"
-    connection.sendall(StartupMessage(settings).write())
-    while data := connection.recv(1 << 16):
-        stream.feed(data)
-        for message in stream:
+    server.sendall(connection.send(StartupMessage(settings)))
+    while data := server.recv(1 << 16):
+        for message, whose in connection.receive(data):
             if answer := login.answer(message):
-                connection.sendall(answer.write())
+                server.sendall(connection.send(answer))
             match message:
+                case ReadyForQuery() if whose.kind is Kind.LOGIN:
+                    query = f"START_REPLICATION SLOT {slot} LOGICAL {start} ({options})"
+                    server.sendall(connection.send(Query(query)))
                 case ReadyForQuery():
-                    connection.sendall(Query(f"START_REPLICATION SLOT {slot} LOGICAL {start} ({options})").write())
+                    sys.exit("the server has ended the changes")
+                case CopyDone():
+                    server.sendall(connection.send(message))
                 case CopyData() if follower.take(read(message.data)):
-                    connection.sendall(follower.status().write())
+                    server.sendall(connection.send(follower.status()))
                 case ErrorResponse():
                     sys.exit(str(message))
 sys.exit("the server closed the connection")

@@ -6,10 +6,11 @@
 //! that isn't UTF-8 ends the program before the server is told of it.
 
 use pgmsg::backend::{Authentication, FieldKind, Message};
+use pgmsg::connection::{Answer, ClientSide, Connection};
+use pgmsg::flow::Heard;
 use pgmsg::frontend::{self, Startup};
 use pgmsg::replication::logical::{Datum, LogicalMessage::*, LogicalStream, Old, Tuple};
 use pgmsg::replication::{Message as Data, StandbyStatusUpdate};
-use pgmsg::{Decoder, Next};
 use std::collections::HashMap;
 use std::io::{BufWriter, Read, Write};
 use std::{env, error, fs, net, str};
@@ -53,14 +54,16 @@ fn last_position(file: &mut fs::File) -> Result<u64> {
     Ok(position)
 }
 
-/// What the lines go to, of each table its name and those of its columns, and what the server is told.
+/// The connection and what is to be sent, what the lines go to, of each table its name and those of its columns, and what the
+/// server is told.
 struct Follower {
+    connection: Connection<ClientSide>,
+    out: Vec<u8>,
     file: BufWriter<fs::File>,
     tables: HashMap<u32, (String, Vec<String>)>,
     changes: LogicalStream,
     status: StandbyStatusUpdate,
     start: String,
-    is_accepted: bool,
 }
 
 impl Follower {
@@ -75,7 +78,7 @@ impl Follower {
     }
 
     /// Takes a message of pgoutput.
-    fn change(&mut self, content: &[u8], out: &mut Vec<u8>) -> Result<()> {
+    fn change(&mut self, content: &[u8]) -> Result<()> {
         match self.changes.read(content)? {
             Relation(it) => {
                 let name = quoted(&[it.schema, b".", it.name].concat())?;
@@ -92,37 +95,45 @@ impl Follower {
                 writeln!(self.file, r#"{{"commit": {}}}"#, it.end_lsn)?;
                 self.file.flush().and_then(|()| self.file.get_ref().sync_data())?;
                 self.status.flushed = it.end_lsn;
-                Data::StandbyStatusUpdate(self.status).write(out)?;
+                self.tell()?;
             }
             _ => {}
         }
         Ok(())
     }
 
-    /// Takes a message of the server, and writes what answers it.
-    fn take(&mut self, message: Message, out: &mut Vec<u8>) -> Result<()> {
-        match message {
-            Message::Authentication(Authentication::Ok) if !self.is_accepted => {
-                self.is_accepted = true
-            }
+    /// Tells the server of the position.
+    fn tell(&mut self) -> Result<()> {
+        let mut told = Vec::new();
+        Data::StandbyStatusUpdate(self.status).write(&mut told)?;
+        Ok(self.connection.send_frames(&told, &mut self.out)?)
+    }
+
+    /// Takes a message of the server.
+    fn take(&mut self, answer: &Answer) -> Result<()> {
+        match answer.message()? {
+            Message::Authentication(Authentication::Ok) => {}
             Message::Authentication(_) => return Err("no trust".into()),
             Message::ErrorResponse(it) => {
                 return Err(it.value(FieldKind::Message).unwrap_or_default().to_printable().into())
             }
-            Message::NoticeResponse(_) | Message::NegotiateProtocolVersion(_) => {}
-            _ if !self.is_accepted => return Err("a message before the login is accepted".into()),
-            Message::ReadyForQuery(_) => {
-                frontend::Message::Query(self.start[..].into()).write(out)?
+            Message::ReadyForQuery(_) if answer.whose == Heard::Login => {
+                let start = frontend::Message::Query(self.start[..].into());
+                self.connection.send(&start, &mut self.out)?;
             }
+            Message::ReadyForQuery(_) => return Err("the server has ended the changes".into()),
             Message::CopyData(data) => match Data::read(&data)? {
-                Data::XLogData(log) => self.change(log.content, out)?,
+                Data::XLogData(log) => self.change(log.content)?,
                 Data::PrimaryKeepalive(it) => {
                     // What was committed before it is on the disk.
                     self.status.flushed = self.status.flushed.max(it.end);
-                    Data::StandbyStatusUpdate(self.status).write(out)?
+                    self.tell()?
                 }
                 _ => {}
             },
+            Message::CopyDone => {
+                self.connection.send(&frontend::Message::CopyDone, &mut self.out)?;
+            }
             _ => {}
         }
         Ok(())
@@ -137,31 +148,33 @@ fn main() -> Result<()> {
     let from = format!("LOGICAL {:X}/{:X}", position >> 32, position as u32);
     let options = format!("proto_version '1', publication_names '{publication}'");
     let mut follower = Follower {
+        connection: Connection::client(),
+        out: Vec::new(),
         file: BufWriter::new(file),
         tables: HashMap::new(),
         changes: LogicalStream::new(),
         status: StandbyStatusUpdate::default(),
         start: format!("START_REPLICATION SLOT {slot} {from} ({options})"),
-        is_accepted: false,
     };
     let of_user = [("user", user), ("database", database)];
     let settings = [&of_user[..], &[("replication", "database"), ("client_encoding", "UTF8")]];
-    let (mut stream, mut out) = (Vec::new(), Vec::new());
-    Startup::new(&settings.concat()).write(&mut out)?;
-    let (mut socket, mut decoder) = (net::TcpStream::connect(address)?, Decoder::of_server());
+    let settings = settings.concat();
+    let startup = frontend::Message::Startup(Startup::new(&settings));
+    follower.connection.send(&startup, &mut follower.out)?;
+    let (mut socket, mut stream) = (net::TcpStream::connect(address)?, Vec::new());
     let mut block = [0; 1 << 16];
     loop {
-        socket.write_all(&out)?;
-        out.clear();
+        socket.write_all(&follower.out)?;
+        follower.out.clear();
         match socket.read(&mut block)? {
             0 => return Err("the server closed the connection".into()),
             count => stream.extend_from_slice(&block[..count]),
         }
-        let mut done = 0;
-        while let Next::Frame(frame) = decoder.next(&stream[done..])? {
-            done += frame.bytes.len();
-            follower.take(Message::read(&frame)?, &mut out)?;
+        let mut rest = &stream[..];
+        while let Some(answer) = follower.connection.receive(&mut rest)? {
+            follower.take(&answer)?;
         }
-        stream.drain(..done);
+        let left = rest.len();
+        stream.drain(..stream.len() - left);
     }
 }
