@@ -78,7 +78,7 @@ is_followed() {
 
 # Runs an example that appends the changes of a slot to a file: first within the greatest size of a file, which cuts it off
 # within a line of a transaction, then killed while changes are made, and last up to the end.
-follow() {
+follow_slot() {
     local slot=$1 file=$work/$1.lines lines making following kill position
     make_followed "$slot"
     run_python "$work/package" tests/system/followed.py run "$PGPORT" &
@@ -118,10 +118,10 @@ test_logical() {
     begin_logical
     test_logical_script
     test_logical_recorded
-    follow of_python env PYTHONPATH="$work/package" "$builder" -B -W error bindings/python/examples/follow.py \
+    follow_slot of_python env PYTHONPATH="$work/package" "$builder" -B -W error bindings/python/examples/follow.py \
         127.0.0.1 "$PGPORT" postgres postgres of_python followed
     if build_rust_examples; then
-        follow of_rust "$rust_examples/follow" "127.0.0.1:$PGPORT" postgres postgres of_rust followed
+        follow_slot of_rust "$rust_examples/follow" "127.0.0.1:$PGPORT" postgres postgres of_rust followed
     else
         echo "left out: the example in Rust, which needs rustc and cargo from $oldest_rust on"
     fi
