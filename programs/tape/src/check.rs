@@ -280,6 +280,12 @@ mod tests {
                  could have come: ErrorResponse",
             ),
             (
+                "_<RZ>Q<1",
+                "connection 1, message 5, ParseComplete of the server at 1.500000 s: the message doesn't answer the request \
+                 that waits; what could have come: RowDescription, CommandComplete, EmptyQueryResponse, CopyInResponse, \
+                 CopyOutResponse, CopyBothResponse, ErrorResponse",
+            ),
+            (
                 "_<Z",
                 "connection 1, message 2, ReadyForQuery of the server at 1.500000 s: the login isn't over, and doesn't wait \
                  for this message; what could have come: AuthenticationOk, AuthenticationKerberosV5, AuthenticationCleartextPassword, AuthenticationGSS, \

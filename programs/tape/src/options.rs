@@ -7,8 +7,9 @@ use std::path::PathBuf;
 /// Exports, imports, edits, compares, checks, redacts and shows recordings of pg_record.
 ///
 /// Ends with status 0; 1 if two recordings differ; 2 for wrong arguments or rules; 7 if a file can't be read or written; 10 if a
-/// recording, or an export of one, is damaged; 13 if a redacted recording may have more secrets; 14 if a session breaks the order of the protocol. An output file gets its name
-/// when all of it is written, and replaces a file of that name, unless another program has changed that file meanwhile.
+/// recording, or an export of one, is damaged; 13 if a redacted recording may have more secrets; 14 if a session breaks the order
+/// of the protocol. An output file gets its name when all of it is written, and replaces a file of that name, unless another
+/// program has changed that file meanwhile.
 #[derive(Parser, Debug)]
 #[command(name = "pg_tape", version = concat!(env!("CARGO_PKG_VERSION"), " plain build"))]
 #[command(disable_help_subcommand = true)]
@@ -99,7 +100,7 @@ pub enum Command {
     /// client asks for, and what answers that. Prints a line for the first message of a session that can't come there, with
     /// what could have come in its place; what else the session has isn't looked at. The last line counts the sessions and the
     /// messages that were followed. A session with a message of more than 4 MiB, and one whose client ends the data of a COPY
-    /// before the server asks for them, can't be followed to their end. Ends with 14 where a session breaks the order.
+    /// before the server asks for them can't be followed to their end. Ends with status 14 if a session breaks the order.
     Check {
         /// The recording
         tape: PathBuf,

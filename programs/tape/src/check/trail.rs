@@ -47,7 +47,7 @@ const OF_CLIENT: [Candidate; 18] = [
 ];
 
 /// All but those that may come at any time.
-const OF_SERVER: [Candidate; 27] = [
+const OF_SERVER: [Candidate; 28] = [
     (Some(b'R'), &[0, 0, 0, 0], "AuthenticationOk"),
     (Some(b'R'), &[0, 0, 0, 2], "AuthenticationKerberosV5"),
     (Some(b'R'), &[0, 0, 0, 3], "AuthenticationCleartextPassword"),
@@ -70,6 +70,7 @@ const OF_SERVER: [Candidate; 27] = [
     (Some(b's'), b"", "PortalSuspended"),
     (Some(b'G'), b"", "CopyInResponse"),
     (Some(b'H'), b"", "CopyOutResponse"),
+    (Some(b'W'), b"", "CopyBothResponse"),
     (Some(b'd'), b"", "CopyData"),
     (Some(b'c'), b"", "CopyDone"),
     (Some(b'V'), b"", "FunctionCallResponse"),
