@@ -99,8 +99,9 @@ pub enum Command {
     /// Each message is to be one that may come where it came, as PostgreSQL's documentation has it in "Message Flow": what a
     /// client asks for, and what answers that. Prints a line for the first message of a session that can't come there, with
     /// what could have come in its place; what else the session has isn't looked at. The last line counts the sessions and the
-    /// messages that were followed. A session with a message of more than 4 MiB, and one whose client ends the data of a COPY
-    /// before the server asks for them can't be followed to their end. Ends with status 14 if a session breaks the order.
+    /// messages that were followed. An encrypted session, one with a message of more than 4 MiB, and one whose client ends the
+    /// data of a COPY before the server asks for them can't be followed to their end. Ends with status 14 if a session breaks
+    /// the order.
     Check {
         /// The recording
         tape: PathBuf,
