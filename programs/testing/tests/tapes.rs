@@ -9,6 +9,9 @@ use std::{fs, thread};
 
 use pgmsg_testing::{Error, Options, Tape};
 
+/// The first message of each client.
+const STARTUP: &[u8] = b"\0\0\0\x12\0\x03\0\0user\0ann\0\0";
+
 #[test]
 fn a_test_runs_without_the_server_on_what_was_recorded() {
     let path = recorded("again", &["SELECT 1", "SELECT 2"]);
@@ -160,8 +163,12 @@ fn a_server_that_is_not_there_leaves_the_old_recording() {
     let old = fs::read(&path).unwrap();
     let closed = TcpListener::bind("127.0.0.1:0").unwrap().local_addr().unwrap().port();
     let tape = Options::new().server("127.0.0.1", closed).record(&path).unwrap();
-    let _ = TcpStream::connect((tape.host(), tape.port())).and_then(|mut it| it.read(&mut [0]));
-    assert!(matches!(tape.finish(), Err(Error::Failed { program: "pg_record", .. })));
+    let mut client = TcpStream::connect((tape.host(), tape.port())).unwrap();
+    client.write_all(STARTUP).unwrap();
+    let _ = client.read(&mut [0]);
+    drop(client);
+    let ended = tape.finish();
+    assert!(matches!(ended, Err(Error::Failed { program: "pg_record", .. })), "{ended:?}");
     assert_eq!(fs::read(&path).unwrap(), old);
 }
 
@@ -205,7 +212,7 @@ fn answer(mut stream: TcpStream) {
 /// Logs in, asks queries, and returns the tags of the commands that answer them.
 fn ask(tape: &Tape, queries: &[&str]) -> Vec<String> {
     let mut stream = TcpStream::connect((tape.host(), tape.port())).unwrap();
-    stream.write_all(b"\0\0\0\x12\0\x03\0\0user\0ann\0\0").unwrap();
+    stream.write_all(STARTUP).unwrap();
     until_ready(&mut stream);
     let mut tags = Vec::new();
     for query in queries {
