@@ -14,6 +14,8 @@ make_debian() {
     timeout 1800 debootstrap --variant=minbase --include=gcc,libc6-dev,pkg-config --cache-dir=$fetched bookworm "$1" \
         > "$work/debootstrap" 2>&1 || return
     printf 'deb http://deb.debian.org/debian%s main\n' ' bookworm' '-security bookworm-security' > "$1/etc/apt/sources.list"
+    # A Debian that is thrown away need not reach the disk after each package.
+    echo force-unsafe-io > "$1/etc/dpkg/dpkg.cfg.d/thrown-away"
     mkdir "$1/root/tarnwhisk"
     in_debian "$1" 'apt-get -q update' > "$work/debootstrap" 2>&1
 }
