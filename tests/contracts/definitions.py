@@ -27,6 +27,18 @@ class Part:
         self.text = " ".join(word for line in lines[first : last + 1] if not line.startswith("--") for word in line.split())
 
 
+def unwrapped(lines):
+    """The lines of a file, of which those of a module without a name stand at the margin."""
+    found, is_within = [], False
+    for line in lines:
+        if re.match(r"[^\s-]", line):
+            is_within = line.startswith("module _ ")
+            found.append("" if is_within else line)
+        else:
+            found.append(line.removeprefix("  ") if is_within else line)
+    return found
+
+
 class Definitions:
     """The parts of a crate's definitions by their names, and of those by cases by the case of each."""
 
@@ -48,6 +60,7 @@ class Definitions:
 
     def read(self, path, lines):
         """Reads the definitions of a file: each begins at the margin, and goes on as far as lines are indented."""
+        lines = unwrapped(lines)
         starts = [number for number, line in enumerate(lines) if re.match(r"[^\s-]", line)]
         starts = [number for number in starts if not re.match(r"(?:pub )?(?:use|mod)\b", lines[number])]
         defined = set()
